@@ -1,0 +1,78 @@
+-- A gap lies in one child of a page, at one of that child's gaps, and in no other. Over a function `f` that says what a child holds; then of trees.
+-- Assumes nothing.
+use mathlib.Core.Path.{_≡_, refl, sym, ap, ap₂, _∙_}
+use mathlib.Core.List.{List, [], _∷_, _++_}
+use Prim.Native.Nat.{ℕ, suc, _+_, _-_, _≤_, _<_}
+use native.Mathlib.Omega.{arith}
+use lib.ListN.{length, take, drop, getD, length-append}
+use borrow.Author.Tests.{le-leb, lt-leb}
+use Rattle.model.specs.Lists.{ins, sum}
+use Rattle.model.specs.Tree.{Entry, Tree, noTree, weave, entries, size, Shaped}
+use Rattle.model.specs.Gap.{slot, rest, slotAt, restAt, childAt}
+use Rattle.model.proofs.Cases.{either-le}
+use Rattle.model.proofs.Lists.{ins-inside, all-at}
+use Rattle.model.proofs.Weave.{left, right, weave-at, length-weave}
+
+-- gap g of the page is gap g′ of its child i
+pub record Located {S A : Type 0} (f : S → List A) (ss : List S) (es : List A) (d : S) (g i g′ : ℕ) : Type 0 where
+  pub inside : i < length ss
+  pub place : length (left f (take i ss) (take i es)) + g′ ≡ g
+  pub fits : g′ ≤ length (f (getD ss i d))
+
+module _ {S A : Type 0} (f : S → List A) where
+  abbrev long : S → ℕ
+  long s = length (f s)
+
+  -- the gap lies in one child, `slot`, at one of its gaps, `rest`
+  pub located : (ss : List S) (es : List A) (d : S) (g : ℕ) → length ss ≡ suc (length es) → g ≤ length (weave f ss es)
+      → Located f ss es d g (slot long ss g) (rest long ss g)
+  located [] es d g k h = absurd (omega arith)
+  located (s ∷ []) [] d g k h = rw (le-leb g (long s) h) (record { inside = omega arith; place = omega arith; fits = h })
+  located (s ∷ s′ ∷ ss) [] d g k h = absurd (omega arith)
+  located (s ∷ ss) (x ∷ es) d g k h =
+      let total : g ≤ long s + suc (length (weave f ss es)) = simp length-append at h in
+      let ih : g - suc (long s) ≤ length (weave f ss es) → Located f ss es d (g - suc (long s)) (slot long ss (g - suc (long s))) (rest long ss (g - suc (long s))) =
+      located ss es d (g - suc (long s)) (omega arith) in
+      either-le g (long s)
+      (λ low. rw (le-leb g (long s) low) (record { inside = omega arith; place = omega arith; fits = low }))
+      (λ high.
+      let r = ih (omega arith) in
+      rw (lt-leb g (long s) high) (record { inside = omega arith; place = simp length-append (omega arith); fits = r .fits }))
+
+  -- an entry put at the gap is an entry put at the child's gap
+  pub located-ins : (ss : List S) (es : List A) (d : S) (g i g′ : ℕ) (x : A) → length ss ≡ suc (length es) → Located f ss es d g i g′
+      → ins g x (weave f ss es) ≡ left f (take i ss) (take i es) ++ (ins g′ x (f (getD ss i d)) ++ right f (drop i es) (drop (suc i) ss))
+  located-ins ss es d g i g′ x k L =
+      ap₂ (λ k l. ins k x l) (sym (L .place)) (weave-at f ss es i d k (L .inside))
+      ∙ ins-inside (left f (take i ss) (take i es)) (f (getD ss i d)) (right f (drop i es) (drop (suc i) ss)) g′ x (L .fits)
+
+  -- and in no other: the place decides the child and its gap
+  pub slot-at : (ls : List S) (xs : List A) (c : S) (rs : List S) (g g′ : ℕ) → length ls ≡ length xs → g′ ≤ long c
+      → length (left f ls xs) + g′ ≡ g → (slot long (ls ++ c ∷ rs) g ≡ length ls) × (rest long (ls ++ c ∷ rs) g ≡ g′)
+  slot-at [] [] c rs g g′ k h e = rw (le-leb g (long c) (omega arith)) (omega arith)
+  slot-at [] (x ∷ xs) c rs g g′ k h e = absurd (omega arith)
+  slot-at (s ∷ ls) [] c rs g g′ k h e = absurd (omega arith)
+  slot-at (s ∷ ls) (x ∷ xs) c rs g g′ k h e =
+      let e′ : long s + suc (length (left f ls xs)) + g′ ≡ g = simp length-append at e in
+      let ih = slot-at ls xs c rs (g - suc (long s)) g′ (omega arith) h (omega arith) in
+      rw (lt-leb g (long s) (omega arith)) (ap suc (ih .0), ih .1)
+
+-- ---- of trees
+
+-- the size of a tree is the entries of its page and the sizes of its children
+pub size-suc : (m low h : ℕ) (t : Tree (suc h)) → Shaped m low (suc h) t → size (suc h) t ≡ length (t .own) + sum (size h) (t .children)
+unfolding entries Shaped
+size-suc m low h t s = length-weave (entries h) (t .children) (t .own) (s .forks)
+
+module _ (m low h : ℕ) (t : Tree (suc h)) (g : ℕ) (s : Shaped m low (suc h) t) (b : g ≤ size (suc h) t) where
+  pub way-down : Located (entries h) (t .children) (t .own) (noTree h) g (slotAt h t g) (restAt h t g)
+  unfolding entries Shaped
+  way-down = located (entries h) (t .children) (t .own) (noTree h) g (s .forks) b
+
+  pub child-shaped : Shaped m m h (childAt h t g)
+  unfolding Shaped
+  child-shaped = all-at (Shaped m m h) (t .children) (slotAt h t g) (noTree h) (way-down .inside) (s .below)
+
+  pub slot-le : slotAt h t g ≤ length (t .own)
+  unfolding Shaped
+  slot-le = let k = s .forks in omega (arith, way-down .inside)

@@ -1,0 +1,129 @@
+-- Laws of lists, in general. Nothing here knows of trees.
+-- Assumes nothing.
+use mathlib.Core.Path.{_≡_, refl, sym, ap, _∙_}
+use mathlib.Core.List.{List, [], _∷_, _++_, map, append-assoc}
+use Prim.Native.Nat.{ℕ, zero, suc, _+_, _≤_, _<_}
+use native.Mathlib.Nat.{zero-add}
+use native.Mathlib.Omega.{arith}
+use lib.ListN.{length, take, drop, getD, set, length-append, length-take, length-drop, take-append-drop}
+use lib.Seq.{take-append-le, drop-append-le, take-append-add, drop-append-add, split-at, drop-cons, set-split}
+use Rattle.model.specs.Lists.{ins, splice, tab, sum, All}
+
+module _ {A : Type 0} where
+  pub length-ins : (g : ℕ) (x : A) (l : List A) → g ≤ length l → length (ins g x l) ≡ suc (length l)
+  length-ins g x l h = simp (length-append, length-take, length-drop) (omega arith)
+
+  pub length-tab : (n : ℕ) (f : ℕ → A) → length (tab n f) ≡ n
+  length-tab zero f = refl
+  length-tab (suc n) f = ap suc (length-tab n (λ k. f (suc k)))
+
+  -- a gap inside the middle part
+  pub ins-inside : (l c r : List A) (g : ℕ) (x : A) → g ≤ length c → ins (length l + g) x (l ++ (c ++ r)) ≡ l ++ (ins g x c ++ r)
+  ins-inside l c r g x h = simp (take-append-add, drop-append-add, take-append-le, drop-append-le, append-assoc)
+
+  pub splice-one : (i : ℕ) (c : A) (l : List A) → i < length l → splice i (c ∷ []) l ≡ set l i c
+  splice-one i c l h = sym (set-split l i c h)
+
+  -- a list around two neighbours
+  pub split-two : (l : List A) (j : ℕ) (d : A) → suc j < length l → l ≡ take j l ++ getD l j d ∷ getD l (suc j) d ∷ drop (suc (suc j)) l
+  split-two l j d h = split-at l j d (omega arith) ∙ ap (λ (r : List A). take j l ++ getD l j d ∷ r) (drop-cons l (suc j) d h)
+
+  -- ---- sums
+
+  pub sum-append : (f : A → ℕ) (xs ys : List A) → sum f (xs ++ ys) ≡ sum f xs + sum f ys
+  sum-append f [] ys = sym (zero-add (sum f ys))
+  sum-append f (x ∷ xs) ys = omega (arith, sum-append f xs ys)
+
+  -- the sum as the parts before, at and after element i
+  pub sum-at : (f : A → ℕ) (l : List A) (i : ℕ) (d : A) → i < length l → sum f l ≡ sum f (take i l) + (f (getD l i d) + sum f (drop (suc i) l))
+  sum-at f l i d h = ap (sum f) (split-at l i d h) ∙ sum-append f (take i l) (getD l i d ∷ drop (suc i) l)
+
+  pub sum-cut : (f : A → ℕ) (n : ℕ) (l : List A) → sum f (take n l) + sum f (drop n l) ≡ sum f l
+  sum-cut f n l = sym (sum-append f (take n l) (drop n l)) ∙ ap (sum f) (take-append-drop n l)
+
+  -- element i replaced by the list cs, or by one
+  pub sum-splice : (f : A → ℕ) (i : ℕ) (cs l : List A) (d : A) → i < length l → sum f (splice i cs l) + f (getD l i d) ≡ sum f l + sum f cs
+  sum-splice f i cs l d h = simp sum-append (omega (arith, sum-at f l i d h))
+
+  pub sum-set : (f : A → ℕ) (l : List A) (i : ℕ) (x d : A) → i < length l → sum f (set l i x) + f (getD l i d) ≡ sum f l + f x
+  sum-set f l i x d h = rw (set-split l i x h) (omega (arith, sum-splice f i (x ∷ []) l d h))
+
+-- P stands first and explicit: antt reads no implicit argument off a type that computes
+module _ {A : Type 0} (P : A → Type 0) where
+  pub all-append : (xs ys : List A) → All P xs → All P ys → All P (xs ++ ys)
+  all-append [] ys a b = b
+  all-append (x ∷ xs) ys a b = (a .0, all-append xs ys (a .1) b)
+
+  pub all-left : (xs ys : List A) → All P (xs ++ ys) → All P xs
+  all-left [] ys a = tt
+  all-left (x ∷ xs) ys a = (a .0, all-left xs ys (a .1))
+
+  pub all-right : (xs ys : List A) → All P (xs ++ ys) → All P ys
+  all-right [] ys a = a
+  all-right (x ∷ xs) ys a = all-right xs ys (a .1)
+
+  pub all-take : (n : ℕ) (l : List A) → All P l → All P (take n l)
+  all-take zero l a = tt
+  all-take (suc n) [] a = tt
+  all-take (suc n) (x ∷ xs) a = (a .0, all-take n xs (a .1))
+
+  pub all-drop : (n : ℕ) (l : List A) → All P l → All P (drop n l)
+  all-drop zero l a = a
+  all-drop (suc n) [] a = tt
+  all-drop (suc n) (x ∷ xs) a = all-drop n xs (a .1)
+
+  pub all-at : (l : List A) (i : ℕ) (d : A) → i < length l → All P l → P (getD l i d)
+  all-at [] i d h a = absurd (omega arith)
+  all-at (x ∷ xs) zero d h a = a .0
+  all-at (x ∷ xs) (suc i) d h a = all-at xs i d (omega arith) (a .1)
+
+  pub all-set : (l : List A) (i : ℕ) (x : A) → P x → All P l → All P (set l i x)
+  all-set [] i x p a = tt
+  all-set (y ∷ l) zero x p a = (p, a .1)
+  all-set (y ∷ l) (suc i) x p a = (a .0, all-set l i x p (a .1))
+
+  pub all-splice : (i : ℕ) (cs l : List A) → All P cs → All P l → All P (splice i cs l)
+  all-splice i cs l a b = all-append (take i l) (cs ++ drop (suc i) l) (all-take i l b) (all-append cs (drop (suc i) l) a (all-drop (suc i) l b))
+
+  -- the parts around element n
+  pub all-last : (n : ℕ) (l : List A) (d : A) → n < length l → All P (take (suc n) l) → All P (take n l) × P (getD l n d)
+  all-last n [] d b h = absurd (omega arith)
+  all-last zero (x ∷ l) d b h = (tt, h .0)
+  all-last (suc n) (x ∷ l) d b h = let r : All P (take n l) × P (getD l n d) = all-last n l d (omega arith) (h .1) in ((h .0, r .0), r .1)
+
+  pub all-first : (n : ℕ) (l : List A) (d : A) → n < length l → All P (drop n l) → P (getD l n d) × All P (drop (suc n) l)
+  all-first n [] d b h = absurd (omega arith)
+  all-first zero (x ∷ l) d b h = h
+  all-first (suc n) (x ∷ l) d b h = all-first n l d (omega arith) h
+
+  pub all-around : (n : ℕ) (l : List A) (d : A) → n < length l → All P (take n l) → P (getD l n d) → All P (drop (suc n) l) → All P l
+  all-around n [] d b before here after = tt
+  all-around zero (x ∷ l) d b before here after = (here, after)
+  all-around (suc n) (x ∷ l) d b before here after = (before .0, all-around n l d (omega arith) (before .1) here after)
+
+pub all-map : {A : Type 0} (P Q : A → Type 0) (l : List A) → ((x : A) → P x → Q x) → All P l → All Q l
+all-map P Q [] f a = tt
+all-map P Q (x ∷ xs) f a = (f x (a .0), all-map P Q xs f (a .1))
+
+-- ---- map
+
+module _ {S U : Type 0} (f : S → U) where
+  pub map-take : (n : ℕ) (l : List S) → take n (map f l) ≡ map f (take n l)
+  map-take zero l = refl
+  map-take (suc n) [] = refl
+  map-take (suc n) (x ∷ xs) = ap {B = List U} (λ r. f x ∷ r) (map-take n xs)
+
+  pub map-drop : (n : ℕ) (l : List S) → drop n (map f l) ≡ map f (drop n l)
+  map-drop zero l = refl
+  map-drop (suc n) [] = refl
+  map-drop (suc n) (x ∷ xs) = map-drop n xs
+
+  pub map-set : (l : List S) (i : ℕ) (x : S) → map f (set l i x) ≡ set (map f l) i (f x)
+  map-set [] i x = refl
+  map-set (y ∷ l) zero x = refl
+  map-set (y ∷ l) (suc i) x = ap {B = List U} (λ r. f y ∷ r) (map-set l i x)
+
+  pub getD-map : (l : List S) (i : ℕ) (d : S) (e : U) → i < length l → getD (map f l) i e ≡ f (getD l i d)
+  getD-map [] i d e h = absurd (omega arith)
+  getD-map (x ∷ xs) zero d e h = refl
+  getD-map (x ∷ xs) (suc i) d e h = getD-map xs i d e (omega arith)

@@ -1,0 +1,21 @@
+-- Two pools that agree in each word that document 01 does not free: the head, the page map, and of each page that is taken its count, its height, its
+-- entries and, above the leaves, its children.
+-- Assumes nothing: these are definitions.
+use mathlib.Core.Path.{_≡_}
+use mathlib.Core.List.{List}
+use Prim.Native.Nat.{ℕ, _<_}
+use lib.ListN.{length, take}
+use Rattle.model.specs.Layout.{least, mostEntries, firstWord}
+use Rattle.model.specs.PageMap.{mapOf, bitAt}
+use Rattle.model.specs.Page.{pageOf, countOf, heightOf, entriesOf, childrenOf}
+
+pub record AlikePage (a b : List ℕ) : Type 0 where
+  pub count : countOf a ≡ countOf b
+  pub height : heightOf a ≡ heightOf b
+  pub entries : entriesOf (mostEntries least) a ≡ entriesOf (mostEntries least) b
+  pub children : 0 < heightOf a → childrenOf (mostEntries least) a ≡ childrenOf (mostEntries least) b
+
+pub record Alike (w v : List ℕ) : Type 0 where
+  pub long : length w ≡ length v
+  pub front : take (firstWord 0) w ≡ take (firstWord 0) v
+  pub pages : (p : ℕ) → bitAt (mapOf w) p ≡ 1 → AlikePage (pageOf w p) (pageOf v p)

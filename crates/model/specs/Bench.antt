@@ -1,0 +1,86 @@
+-- Document 01, "Bench cases": (a) to (n) as a single table under one claim, `Table`, about the calls' definitions.
+-- It is proved by computation in proofs/Bench.
+-- Assumes nothing: these are definitions.
+use mathlib.Core.Path.{_≡_}
+use mathlib.Core.Option.{Option, none, some}
+use mathlib.Core.List.{List, [], _∷_, map}
+use Prim.Native.Nat.{ℕ, zero, suc}
+use Rattle.model.specs.Tree.{Entry, Tree, Whole}
+use Rattle.model.specs.Entries.{Cursor, shut, gap}
+use Rattle.model.specs.Pool.{Pool, heldBy, freeOf, made, withCursor}
+use Rattle.model.specs.Refusal.{mapKind, refusal}
+use Rattle.model.specs.Call.{Call}
+use Rattle.model.specs.MapCalls.{entry, mapInsert, mapRemove}
+use Rattle.model.specs.CursorCalls.{cursorOpenLower, cursorOpenUpper, cursorNext, cursorInsertAfter}
+
+-- a key with value 0; a leaf; a page above leaves
+abbrev pub tick : ℕ → Entry
+tick k = entry k 0
+
+abbrev pub ticks : List ℕ → List Entry
+ticks ks = map tick ks
+
+abbrev pub leaf : ℕ → List ℕ → Tree 1
+leaf p ks = record { page = p; own = ticks ks; children = tt ∷ map (λ k. tt) ks }
+
+abbrev pub upper : ℕ → List ℕ → List (Tree 1) → Tree 2
+upper p ks ts = record { page = p; own = ticks ks; children = ts }
+
+abbrev pub oneLevel : Tree 1 → Whole
+oneLevel t = record { levels = 1; tree = t }
+
+abbrev pub twoLevels : Tree 2 → Whole
+twoLevels t = record { levels = 2; tree = t }
+
+-- the calls one after another
+abbrev pub insertAll : List ℕ → Pool → Pool
+insertAll [] p = p
+insertAll (k ∷ ks) p = insertAll ks (mapInsert k 0 .after p)
+
+-- what is refused by what the pool holds
+abbrev pub lateNumber : {A : Type 0} → Call A → Pool → ℕ
+lateNumber c p = refusal (c .late p)
+
+-- entries 10, 20, 30, and the gap at g
+abbrev pub three : Pool
+three = insertAll (10 ∷ 20 ∷ 30 ∷ []) (made 1 mapKind)
+
+abbrev pub threeAt : ℕ → Pool
+threeAt g = withCursor three (gap g)
+
+-- ten rising keys in P pages
+abbrev pub rising : ℕ → List ℕ → Pool
+rising P ks = insertAll ks (made P mapKind)
+
+abbrev pub nine : List ℕ
+nine = 1 ∷ 2 ∷ 3 ∷ 4 ∷ 5 ∷ 6 ∷ 7 ∷ 8 ∷ 9 ∷ []
+
+abbrev pub ten : Pool
+ten = mapInsert 10 0 .after (rising 3 nine)
+
+abbrev pub without8 : Pool
+without8 = mapRemove 8 .after ten
+
+abbrev pub without1 : Pool
+without1 = mapRemove 1 .after without8
+
+pub record Table : Type 0 where
+  pub a : cursorOpenLower 0 20 .after three .cursor ≡ gap 1
+  pub b : cursorOpenLower 1 20 .after three .cursor ≡ gap 2
+  pub c : cursorOpenUpper 0 20 .after three .cursor ≡ gap 2
+  pub d : cursorOpenUpper 1 20 .after three .cursor ≡ gap 1
+  pub e : cursorOpenLower 2 20 .after three .cursor ≡ gap 0
+  pub f : cursorOpenUpper 2 20 .after three .cursor ≡ gap 3
+  pub g : cursorOpenLower 0 25 .after three .cursor ≡ gap 2
+  pub h : lateNumber (cursorInsertAfter 20 0) (threeAt 1) ≡ 6
+  pub i-room : lateNumber (cursorInsertAfter 15 0) (threeAt 1) ≡ 0
+  pub i : heldBy (cursorInsertAfter 15 0 .after (threeAt 1)) ≡ ticks (10 ∷ 15 ∷ 20 ∷ 30 ∷ [])
+  pub i-gap : cursorInsertAfter 15 0 .after (threeAt 1) .cursor ≡ gap 1
+  pub j : cursorNext .answer (threeAt 3) ≡ none
+  pub j-gap : cursorNext .after (threeAt 3) .cursor ≡ gap 3
+  pub k-room : lateNumber (mapInsert 10 0) (rising 3 nine) ≡ 0
+  pub k : ten .whole ≡ twoLevels (upper 2 (6 ∷ []) (leaf 0 (1 ∷ 2 ∷ 3 ∷ 4 ∷ 5 ∷ []) ∷ leaf 1 (7 ∷ 8 ∷ 9 ∷ 10 ∷ []) ∷ []))
+  pub l : lateNumber (mapInsert 10 0) (rising 2 nine) ≡ 7
+  pub m : without8 .whole ≡ twoLevels (upper 2 (5 ∷ []) (leaf 0 (1 ∷ 2 ∷ 3 ∷ 4 ∷ []) ∷ leaf 1 (6 ∷ 7 ∷ 9 ∷ 10 ∷ []) ∷ []))
+  pub n : without1 .whole ≡ oneLevel (leaf 0 (2 ∷ 3 ∷ 4 ∷ 5 ∷ 6 ∷ 7 ∷ 9 ∷ 10 ∷ []))
+  pub n-free : freeOf without1 ≡ 1 ∷ 2 ∷ []

@@ -1,0 +1,116 @@
+-- Document 01, "The calls", cursor, on a map: open at lower bound, open at upper bound, next, prev, peek next, peek prev, write next, write prev,
+-- insert after, remove next, close. The gap is a place number; both ends of the list have the answer `none`, and nothing changes.
+-- Assumes nothing: these are definitions.
+use mathlib.Core.Bool.{Bool, not}
+use mathlib.Core.Option.{Option, none, some}
+use mathlib.Core.List.{List, [], _∷_}
+use Prim.Native.Nat.{ℕ, zero, suc, pred}
+use Rattle.model.specs.Layout.{least}
+use Rattle.model.specs.Tree.{Entry}
+use Rattle.model.specs.Bound.{Bound, included, excluded, unbounded, boundOf, beforeLower, beforeUpper}
+use Rattle.model.specs.Entries.{gapOf, Cursor, shut, gap, next, prev, keyFits, forth, back, valueOf}
+use Rattle.model.specs.Remove.{remove}
+use Rattle.model.specs.Write.{write}
+use Rattle.model.specs.Pool.{Pool, heldBy, gapBy, withWhole, withCursor}
+use Rattle.model.specs.Refusal.{Test, _when_, mapKind, unfit, otherKind, badBound, noBound, opened, closed}
+use Rattle.model.specs.Call.{Call}
+use Rattle.model.specs.PoolCalls.{reads}
+use Rattle.model.specs.MapCalls.{entry, putAt, crowded}
+
+abbrev pub openTests : ℕ → List ℕ → List Test
+openTests kind w = unfit w ∷ otherKind mapKind w ∷ badBound (noBound kind) ∷ opened w ∷ []
+
+abbrev pub cursorTests : List ℕ → List Test
+cursorTests w = unfit w ∷ otherKind mapKind w ∷ closed w ∷ []
+
+-- the entry after the gap, and the one before it
+abbrev pub nextOf : Pool → Option Entry
+nextOf p = next (gapBy p) (heldBy p)
+
+abbrev pub prevOf : Pool → Option Entry
+prevOf p = prev (gapBy p) (heldBy p)
+
+-- the value v in the place of that of entry g, where there is one
+abbrev pub rewrite : Option Entry → ℕ → ℕ → Pool → Pool
+rewrite none g v p = p
+rewrite (some e) g v p = withWhole p (write (p .whole) g (entry (e .key) v))
+
+abbrev pub strikeNext : Option Entry → Pool → Pool
+strikeNext none p = p
+strikeNext (some e) p = withWhole p (remove least (p .whole) (gapBy p))
+
+-- ---- the calls
+
+-- opening reads all levels, except that lower Unbounded reads none
+abbrev pub lowerRead : Bound → ℕ → ℕ
+lowerRead (included k) levels = levels
+lowerRead (excluded k) levels = levels
+lowerRead unbounded levels = 0
+
+abbrev pub cursorOpenLower : ℕ → ℕ → Call ℕ
+cursorOpenLower kind k = record {
+  early = openTests kind;
+  late = λ p. [];
+  answer = λ p. lowerRead (boundOf kind k) (p .whole .levels);
+  after = λ p. withCursor p (gap (gapOf (beforeLower (boundOf kind k)) (heldBy p)));
+}
+
+abbrev pub cursorOpenUpper : ℕ → ℕ → Call ℕ
+cursorOpenUpper kind k = record {
+  early = openTests kind;
+  late = λ p. [];
+  answer = λ p. p .whole .levels;
+  after = λ p. withCursor p (gap (gapOf (beforeUpper (boundOf kind k)) (heldBy p)));
+}
+
+abbrev pub cursorNext : Call (Option Entry)
+cursorNext = record {
+  early = cursorTests;
+  late = λ p. [];
+  answer = nextOf;
+  after = λ p. withCursor p (gap (forth (nextOf p) (gapBy p)));
+}
+
+abbrev pub cursorPrev : Call (Option Entry)
+cursorPrev = record {
+  early = cursorTests;
+  late = λ p. [];
+  answer = prevOf;
+  after = λ p. withCursor p (gap (back (prevOf p) (gapBy p)));
+}
+
+abbrev pub cursorPeekNext : Call (Option Entry)
+cursorPeekNext = reads cursorTests nextOf
+
+abbrev pub cursorPeekPrev : Call (Option Entry)
+cursorPeekPrev = reads cursorTests prevOf
+
+abbrev pub cursorWriteNext : ℕ → Call (Option ℕ)
+cursorWriteNext v = record {
+  early = cursorTests;
+  late = λ p. [];
+  answer = λ p. valueOf (nextOf p);
+  after = λ p. rewrite (nextOf p) (gapBy p) v p;
+}
+
+abbrev pub cursorWritePrev : ℕ → Call (Option ℕ)
+cursorWritePrev v = record {
+  early = cursorTests;
+  late = λ p. [];
+  answer = λ p. valueOf (prevOf p);
+  after = λ p. rewrite (prevOf p) (pred (gapBy p)) v p;
+}
+
+abbrev pub cursorInsertAfter : ℕ → ℕ → Call (Unit {0})
+cursorInsertAfter k v = record {
+  early = cursorTests;
+  late = λ p. 6 when not (keyFits k (gapBy p) (heldBy p)) ∷ 7 when crowded (gapBy p) p ∷ [];
+  answer = λ p. tt;
+  after = λ p. putAt (gapBy p) (entry k v) p;
+}
+
+abbrev pub cursorRemoveNext : Call (Option Entry)
+cursorRemoveNext = record { early = cursorTests; late = λ p. []; answer = nextOf; after = λ p. strikeNext (nextOf p) p }
+
+abbrev pub cursorClose : Call (Unit {0})
+cursorClose = record { early = cursorTests; late = λ p. []; answer = λ p. tt; after = λ p. withCursor p shut }

@@ -1,0 +1,64 @@
+-- Document 01, "The pool", the head: the place of each of its numbers, and when a head fits.
+-- "A head fits when all this holds of its numbers": one line a sentence, in the paper's order.
+-- Assumes nothing: these are definitions.
+use mathlib.Core.Bool.{Bool, false, not, cond}
+use mathlib.Core.List.{List, [], _∷_, _++_, map}
+use Prim.Native.Nat.{ℕ, _+_, _*_, _-_}
+use lib.Dec.{leb, eqb}
+use lib.ListN.{length}
+use Rattle.model.specs.Lists.{tab, every}
+use Rattle.model.specs.Layout.{headWords, mostLevels, least, mostEntries, pagesIn, allowed, word}
+
+-- the number of entries; the root's page number plus 1; the number of levels
+abbrev pub countWord : List ℕ → ℕ
+countWord w = word w 2
+
+abbrev pub rootWord : List ℕ → ℕ
+rootWord w = word w 3
+
+abbrev pub levelsWord : List ℕ → ℕ
+levelsWord w = word w 4
+
+-- 1 while the cursor is open; 1 for a gap after an entry; that entry's key
+abbrev pub openWord : List ℕ → ℕ
+openWord w = word w 5
+
+abbrev pub afterWord : List ℕ → ℕ
+afterWord w = word w 6
+
+abbrev pub keyWord : List ℕ → ℕ
+keyWord w = word w 7
+
+-- 0 for a map, 1 for a set
+abbrev pub kindWord : List ℕ → ℕ
+kindWord w = word w 8
+
+-- both zero, or neither
+abbrev alike : ℕ → ℕ → Bool
+alike a b = cond (eqb a 0) (eqb b 0) (not (eqb b 0))
+
+-- the words 9 to 31
+abbrev pub spareWords : List ℕ → List ℕ
+spareWords w = tab (headWords - 9) (λ i. word w (9 + i))
+
+unfoldable pub fits : List ℕ → Bool
+fits w =
+    let P = pagesIn (length w) in
+    every (
+    eqb (word w 0) 1
+    ∷ eqb (word w 1) P
+    ∷ leb (countWord w) (mostEntries least * P)
+    ∷ leb (rootWord w) P
+    ∷ leb (levelsWord w) mostLevels
+    ∷ leb (openWord w) 1
+    ∷ leb (afterWord w) 1
+    ∷ leb (kindWord w) 1
+    ∷ leb (kindWord w + openWord w) 1
+    ∷ alike (countWord w) (rootWord w)
+    ∷ alike (countWord w) (levelsWord w)
+    ∷ map (λ x. eqb x 0) (spareWords w)
+    )
+
+-- a pool's length and a head that fits
+unfoldable pub headed : List ℕ → Bool
+headed w = cond (allowed (length w)) (fits w) false

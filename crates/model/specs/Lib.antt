@@ -1,0 +1,30 @@
+-- What everything is proved against, in the order of document 01. Definitions only: the laws stand in proofs/.
+pub mod Lists
+-- "The pool": where the words lie, the head, the page map, the tree, a page
+pub mod Layout
+pub mod Head
+pub mod PageMap
+pub mod Tree
+pub mod Page
+-- the list model, which is what the source speaks of
+pub mod Bound
+pub mod Entries
+-- "How the tree moves": by position
+pub mod Gap
+pub mod Insert
+pub mod Mend
+pub mod Remove
+pub mod Write
+-- what a sound pool holds, and when a pool is sound
+pub mod Pool
+pub mod Sound
+pub mod Alike
+-- "Numbers a caller can be given", and "The calls"
+pub mod Refusal
+pub mod Call
+pub mod PoolCalls
+pub mod MapCalls
+pub mod SetCalls
+pub mod CursorCalls
+-- "Bench cases"
+pub mod Bench

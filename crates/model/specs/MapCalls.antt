@@ -1,0 +1,100 @@
+-- Document 01, "The calls", map: insert, get, contains, replace, remove, list entries, keys or values.
+-- The set's calls are the same ones on entries with value 0 (SetCalls).
+-- Assumes nothing: these are definitions.
+use mathlib.Core.Bool.{Bool, not, cond, true, false, _||_}
+use mathlib.Core.Option.{Option}
+use mathlib.Core.List.{List, [], _∷_, _++_}
+use Prim.Native.Nat.{ℕ, min}
+use lib.Dec.{ltb}
+use lib.ListN.{length, take, drop}
+use Rattle.model.specs.Layout.{least}
+use Rattle.model.specs.Tree.{Entry, Whole}
+use Rattle.model.specs.Bound.{Bound}
+use Rattle.model.specs.Entries.{has, lookup, gapBefore, between}
+use Rattle.model.specs.Gap.{Found, depth}
+use Rattle.model.specs.Insert.{insert, needed}
+use Rattle.model.specs.Remove.{remove}
+use Rattle.model.specs.Write.{write}
+use Rattle.model.specs.Pool.{Pool, heldBy, room, freshOf, withWhole}
+use Rattle.model.specs.Refusal.{Test, _when_, mapKind, unfit, otherKind, badBound, noBound, opened}
+use Rattle.model.specs.Call.{Call}
+use Rattle.model.specs.PoolCalls.{reads}
+
+-- ---- shared with the set
+
+abbrev pub entry : ℕ → ℕ → Entry
+entry k v = record { key = k; value = v }
+
+-- refusals of a call that reads, that changes, that lists; `kind` is the kind that it is for
+abbrev pub readTests : ℕ → List ℕ → List Test
+readTests kind w = unfit w ∷ otherKind kind w ∷ []
+
+abbrev pub changeTests : ℕ → List ℕ → List Test
+changeTests kind w = unfit w ∷ otherKind kind w ∷ opened w ∷ []
+
+abbrev pub listTests : ℕ → ℕ → ℕ → List ℕ → List Test
+listTests kind lower upper w = unfit w ∷ otherKind kind w ∷ badBound (noBound lower || noBound upper) ∷ []
+
+-- entry e put at gap g; and whether the pages it needs are more than are free
+abbrev pub putAt : ℕ → Entry → Pool → Pool
+putAt g e p = withWhole p (insert least (freshOf p) (p .whole) g e)
+
+abbrev pub crowded : ℕ → Pool → Bool
+crowded g p = ltb (room p) (needed least (p .whole) g)
+
+-- an entry filed: over the one that has its key, or put at the key's gap
+unfoldable pub file : Entry → Pool → Pool
+file e p =
+    let g = gapBefore (e .key) (heldBy p) in
+    cond (has (e .key) (heldBy p)) (withWhole p (write (p .whole) g e)) (putAt g e p)
+
+-- a key present needs no page
+unfoldable pub noRoom : ℕ → Pool → Bool
+noRoom k p = cond (has k (heldBy p)) false (crowded (gapBefore k (heldBy p)) p)
+
+unfoldable pub strike : ℕ → Pool → Pool
+strike k p = cond (has k (heldBy p)) (withWhole p (remove least (p .whole) (gapBefore k (heldBy p)))) p
+
+-- the pages from the root to the page that holds the key, or all levels if it is absent
+unfoldable pub pagesRead : ℕ → Pool → ℕ
+pagesRead k p = cond (has k (heldBy p)) (depth (p .whole .levels) (p .whole .tree) (gapBefore k (heldBy p))) (p .whole .levels)
+
+-- whether, and the pages read
+pub record Seen : Type 0 where
+  pub present : Bool
+  pub read : ℕ
+
+-- ---- the calls
+
+abbrev pub mapInsert : ℕ → ℕ → Call (Option ℕ)
+mapInsert k v = record {
+  early = changeTests mapKind;
+  late = λ p. 7 when noRoom k p ∷ [];
+  answer = λ p. lookup k (heldBy p);
+  after = file (entry k v);
+}
+
+abbrev pub mapGet : ℕ → Call Found
+mapGet k = reads (readTests mapKind) (λ p. record { value = lookup k (heldBy p); read = pagesRead k p })
+
+abbrev pub mapContains : ℕ → Call Seen
+mapContains k = reads (readTests mapKind) (λ p. record { present = has k (heldBy p); read = pagesRead k p })
+
+abbrev pub mapReplace : ℕ → ℕ → Call (Option ℕ)
+mapReplace k v = record {
+  early = changeTests mapKind;
+  late = λ p. [];
+  answer = λ p. lookup k (heldBy p);
+  after = λ p. cond (has k (heldBy p)) (file (entry k v) p) p;
+}
+
+abbrev pub mapRemove : ℕ → Call (Option ℕ)
+mapRemove k = record { early = changeTests mapKind; late = λ p. []; answer = λ p. lookup k (heldBy p); after = strike k }
+
+-- list: the lesser of the entries between the bounds and the shortest slice is written to the slices' fronts, and nothing past them
+abbrev pub listed : Bound → Bound → ℕ → Pool → List Entry
+listed low high shortest p = take shortest (between low high (heldBy p))
+
+-- a slice with `front` written at its front
+abbrev pub written : List ℕ → List ℕ → List ℕ
+written front slice = front ++ drop (length front) slice
