@@ -1,13 +1,13 @@
 -- A gap lies in one child of a page, at one of that child's gaps, and in no other. Over a function `f` that says what a child holds; then of trees.
 -- Assumes nothing.
-use mathlib.Core.Path.{_≡_, refl, sym, ap, ap₂, _∙_}
+use mathlib.Core.Path.{_≡_, sym, ap, ap₂, _∙_}
 use mathlib.Core.List.{List, [], _∷_, _++_}
 use Prim.Native.Nat.{ℕ, suc, _+_, _-_, _≤_, _<_}
 use native.Mathlib.Omega.{arith}
 use lib.ListN.{length, take, drop, getD, length-append}
 use borrow.Author.Tests.{le-leb, lt-leb}
 use Rattle.model.specs.Lists.{ins, sum}
-use Rattle.model.specs.Tree.{Entry, Tree, noTree, weave, entries, size, Shaped}
+use Rattle.model.specs.Tree.{Tree, noTree, weave, entries, size, Shaped}
 use Rattle.model.specs.Gap.{slot, rest, slotAt, restAt, childAt}
 use Rattle.model.proofs.Cases.{either-le}
 use Rattle.model.proofs.Lists.{ins-inside, all-at}

@@ -1,6 +1,30 @@
--- The laws of model's definitions, each file on those before it.
+-- The laws of model's definitions. In general: cases, lists, sums.
 pub mod Cases
 pub mod Lists
+pub mod Sums
+-- the page map and the head
+pub mod PageMap
+pub mod Head
+-- the list model
+pub mod Entries
+-- a page in walking order, the place of a gap, the search by keys, the path to a leaf
 pub mod Weave
 pub mod Gap
+pub mod Search
+-- how the tree moves
+pub mod Cut
+pub mod Insert
+pub mod Gone
+pub mod Mend
+pub mod Moves
+pub mod Remove
+pub mod Path
+pub mod Write
+-- the numbers of demand 3
+pub mod Numbers
+pub mod Room
+-- the tree read from words, and what two pools that hold the same share
+pub mod Read
+pub mod Alike
+-- the bench cases
 pub mod Bench

@@ -3,11 +3,12 @@
 use mathlib.Core.Path.{_≡_, refl, sym, ap, _∙_}
 use mathlib.Core.List.{List, [], _∷_, _++_, map, append-assoc}
 use Prim.Native.Nat.{ℕ, zero, suc, _+_, _≤_, _<_}
-use native.Mathlib.Nat.{zero-add}
+use native.Mathlib.Nat.{zero-add, suc-add}
 use native.Mathlib.Omega.{arith}
-use lib.ListN.{length, take, drop, getD, set, length-append, length-take, length-drop, take-append-drop}
-use lib.Seq.{take-append-le, drop-append-le, take-append-add, drop-append-add, split-at, drop-cons, set-split}
-use Rattle.model.specs.Lists.{ins, splice, tab, sum, All}
+use lib.ListN.{length, take, drop, getD, set, length-append, length-take, length-drop, getElem?}
+use lib.Seq.{take-append-le, drop-append-le, take-append-add, drop-append-add, split-at, drop-cons, set-split, set-append-left, set-append-seam}
+use Rattle.model.specs.Lists.{ins, splice, tab, All, final}
+use mathlib.Core.Option.{none, some}
 
 module _ {A : Type 0} where
   pub length-ins : (g : ℕ) (x : A) (l : List A) → g ≤ length l → length (ins g x l) ≡ suc (length l)
@@ -28,25 +29,34 @@ module _ {A : Type 0} where
   pub split-two : (l : List A) (j : ℕ) (d : A) → suc j < length l → l ≡ take j l ++ getD l j d ∷ getD l (suc j) d ∷ drop (suc (suc j)) l
   split-two l j d h = split-at l j d (omega arith) ∙ ap (λ (r : List A). take j l ++ getD l j d ∷ r) (drop-cons l (suc j) d h)
 
-  -- ---- sums
+  pub set-append-add : (l s : List A) (n : ℕ) (x : A) → set (l ++ s) (length l + n) x ≡ l ++ set s n x
+  set-append-add [] s n x = rw zero-add
+  set-append-add (y ∷ l) s n x = rw suc-add (ap (λ (r : List A). y ∷ r) (set-append-add l s n x))
 
-  pub sum-append : (f : A → ℕ) (xs ys : List A) → sum f (xs ++ ys) ≡ sum f xs + sum f ys
-  sum-append f [] ys = sym (zero-add (sum f ys))
-  sum-append f (x ∷ xs) ys = omega (arith, sum-append f xs ys)
+  -- an element of the middle part
+  pub set-inside : (l c r : List A) (g : ℕ) (x : A) → g < length c → set (l ++ (c ++ r)) (length l + g) x ≡ l ++ (set c g x ++ r)
+  set-inside l c r g x h = set-append-add l (c ++ r) g x ∙ ap (λ (s : List A). l ++ s) (set-append-left c r g x h)
 
-  -- the sum as the parts before, at and after element i
-  pub sum-at : (f : A → ℕ) (l : List A) (i : ℕ) (d : A) → i < length l → sum f l ≡ sum f (take i l) + (f (getD l i d) + sum f (drop (suc i) l))
-  sum-at f l i d h = ap (sum f) (split-at l i d h) ∙ sum-append f (take i l) (getD l i d ∷ drop (suc i) l)
+  -- the first behind the middle part
+  pub set-seam : (l c : List A) (y : A) (r : List A) (x : A) → set (l ++ (c ++ y ∷ r)) (length l + length c) x ≡ l ++ (c ++ x ∷ r)
+  set-seam l c y r x = set-append-add l (c ++ y ∷ r) (length c) x ∙ ap (λ (s : List A). l ++ s) (set-append-seam c y r x)
 
-  pub sum-cut : (f : A → ℕ) (n : ℕ) (l : List A) → sum f (take n l) + sum f (drop n l) ≡ sum f l
-  sum-cut f n l = sym (sum-append f (take n l) (drop n l)) ∙ ap (sum f) (take-append-drop n l)
+  -- the last stands at the last place
+  pub final-at : (d : A) (l : List A) (n : ℕ) → length l ≡ suc n → final d l ≡ getD l n d
+  final-at d [] n h = absurd (omega arith)
+  final-at d (x ∷ []) zero h = refl
+  final-at d (x ∷ []) (suc n) h = absurd (omega arith)
+  final-at d (x ∷ y ∷ l) zero h = absurd (omega arith)
+  final-at d (x ∷ y ∷ l) (suc n) h = final-at d (y ∷ l) n (omega arith)
 
-  -- element i replaced by the list cs, or by one
-  pub sum-splice : (f : A → ℕ) (i : ℕ) (cs l : List A) (d : A) → i < length l → sum f (splice i cs l) + f (getD l i d) ≡ sum f l + sum f cs
-  sum-splice f i cs l d h = simp sum-append (omega (arith, sum-at f l i d h))
+  -- where there is a last, it is not the default
+  pub final-other : (d e : A) (l : List A) → 1 ≤ length l → final d l ≡ final e l
+  final-other d e [] h = absurd (omega arith)
+  final-other d e (x ∷ l) h = refl
 
-  pub sum-set : (f : A → ℕ) (l : List A) (i : ℕ) (x d : A) → i < length l → sum f (set l i x) + f (getD l i d) ≡ sum f l + f x
-  sum-set f l i x d h = rw (set-split l i x h) (omega (arith, sum-splice f i (x ∷ []) l d h))
+  pub final-append : (d : A) (l : List A) (x : A) (r : List A) → final d (l ++ x ∷ r) ≡ final x r
+  final-append d [] x r = refl
+  final-append d (y ∷ l) x r = final-append y l x r
 
 -- P stands first and explicit: antt reads no implicit argument off a type that computes
 module _ {A : Type 0} (P : A → Type 0) where
@@ -101,6 +111,21 @@ module _ {A : Type 0} (P : A → Type 0) where
   all-around zero (x ∷ l) d b before here after = (here, after)
   all-around (suc n) (x ∷ l) d b before here after = (before .0, all-around n l d (omega arith) (before .1) here after)
 
+-- what holds at each place holds of all
+pub all-of : {A : Type 0} (P : A → Type 0) (l : List A) (d : A) → ((i : ℕ) → i < length l → P (getD l i d)) → All P l
+all-of P [] d h = tt
+all-of P (x ∷ xs) d h = (h 0 (omega arith), all-of P xs d (λ i b. h (suc i) (omega arith)))
+
+pub next-some : {A : Type 0} (l : List A) (i : ℕ) (d : A) → i < length l → getElem? l i ≡ some (getD l i d)
+next-some [] i d b = absurd (omega arith)
+next-some (x ∷ xs) zero d b = refl
+next-some (x ∷ xs) (suc i) d b = next-some xs i d (omega arith)
+
+pub next-none : {A : Type 0} (l : List A) (i : ℕ) → length l ≤ i → getElem? l i ≡ none
+next-none [] i b = refl
+next-none (x ∷ xs) zero b = absurd (omega arith)
+next-none (x ∷ xs) (suc i) b = next-none xs i (omega arith)
+
 pub all-map : {A : Type 0} (P Q : A → Type 0) (l : List A) → ((x : A) → P x → Q x) → All P l → All Q l
 all-map P Q [] f a = tt
 all-map P Q (x ∷ xs) f a = (f x (a .0), all-map P Q xs f (a .1))
@@ -127,3 +152,13 @@ module _ {S U : Type 0} (f : S → U) where
   getD-map [] i d e h = absurd (omega arith)
   getD-map (x ∷ xs) zero d e h = refl
   getD-map (x ∷ xs) (suc i) d e h = getD-map xs i d e (omega arith)
+
+pub getD-tab : {A : Type 0} (n : ℕ) (f : ℕ → A) (i : ℕ) (d : A) → i < n → getD (tab n f) i d ≡ f i
+getD-tab zero f i d h = absurd (omega arith)
+getD-tab (suc n) f zero d h = refl
+getD-tab (suc n) f (suc i) d h = getD-tab n (λ k. f (suc k)) i d (omega arith)
+
+-- P of each image
+pub all-image : {S U : Type 0} (f : S → U) (P : U → Type 0) (l : List S) → All (λ x. P (f x)) l → All P (map f l)
+all-image f P [] a = tt
+all-image f P (x ∷ l) a = (a .0, all-image f P l (a .1))

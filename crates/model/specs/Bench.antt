@@ -2,11 +2,11 @@
 -- It is proved by computation in proofs/Bench.
 -- Assumes nothing: these are definitions.
 use mathlib.Core.Path.{_≡_}
-use mathlib.Core.Option.{Option, none, some}
+use mathlib.Core.Option.{none}
 use mathlib.Core.List.{List, [], _∷_, map}
-use Prim.Native.Nat.{ℕ, zero, suc}
+use Prim.Native.Nat.{ℕ}
 use Rattle.model.specs.Tree.{Entry, Tree, Whole}
-use Rattle.model.specs.Entries.{Cursor, shut, gap}
+use Rattle.model.specs.Entries.{gap}
 use Rattle.model.specs.Pool.{Pool, heldBy, freeOf, made, withCursor}
 use Rattle.model.specs.Refusal.{mapKind, refusal}
 use Rattle.model.specs.Call.{Call}

@@ -1,14 +1,14 @@
 -- Document 01, "The calls", cursor, on a map: open at lower bound, open at upper bound, next, prev, peek next, peek prev, write next, write prev,
 -- insert after, remove next, close. The gap is a place number; both ends of the list have the answer `none`, and nothing changes.
 -- Assumes nothing: these are definitions.
-use mathlib.Core.Bool.{Bool, not}
+use mathlib.Core.Bool.{not}
 use mathlib.Core.Option.{Option, none, some}
 use mathlib.Core.List.{List, [], _∷_}
-use Prim.Native.Nat.{ℕ, zero, suc, pred}
+use Prim.Native.Nat.{ℕ, pred}
 use Rattle.model.specs.Layout.{least}
 use Rattle.model.specs.Tree.{Entry}
 use Rattle.model.specs.Bound.{Bound, included, excluded, unbounded, boundOf, beforeLower, beforeUpper}
-use Rattle.model.specs.Entries.{gapOf, Cursor, shut, gap, next, prev, keyFits, forth, back, valueOf}
+use Rattle.model.specs.Entries.{gapOf, shut, gap, next, prev, keyFits, forth, back, valueOf}
 use Rattle.model.specs.Remove.{remove}
 use Rattle.model.specs.Write.{write}
 use Rattle.model.specs.Pool.{Pool, heldBy, gapBy, withWhole, withCursor}

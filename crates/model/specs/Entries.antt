@@ -1,12 +1,12 @@
 -- The list model, which is what the source speaks of: the entries in key order, and the cursor, shut or in a gap from 0 to n (the source's `position`).
 -- What each call answers and leaves, as short functions on lists.
 -- Assumes nothing: these are definitions.
-use mathlib.Core.Bool.{Bool, true, false, not, cond}
+use mathlib.Core.Bool.{Bool, true, false, cond}
 use mathlib.Core.Option.{Option, none, some}
 use mathlib.Core.List.{List, [], _∷_}
-use Prim.Native.Nat.{ℕ, zero, suc, _+_}
+use Prim.Native.Nat.{ℕ, zero, suc}
 use lib.Dec.{leb, ltb, eqb}
-use lib.ListN.{length, set, getElem?}
+use lib.ListN.{set, getElem?}
 use Rattle.model.specs.Lists.{ins, del, those, every}
 use Rattle.model.specs.Tree.{Entry}
 use Rattle.model.specs.Bound.{Bound, beforeLower, beforeUpper}

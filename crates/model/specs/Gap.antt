@@ -4,10 +4,10 @@
 use mathlib.Core.Bool.{Bool, false, cond}
 use mathlib.Core.Option.{Option, none, some}
 use mathlib.Core.List.{List, [], _∷_}
-use Prim.Native.Nat.{ℕ, zero, suc, _+_, _-_}
+use Prim.Native.Nat.{ℕ, zero, suc, _-_}
 use lib.Dec.{leb, ltb, eqb}
 use lib.ListN.{length, getD}
-use Rattle.model.specs.Tree.{Entry, Node, Tree, noEntry, noTree, entries, size}
+use Rattle.model.specs.Tree.{Entry, Tree, noEntry, noTree, size}
 use Rattle.model.specs.Entries.{gapOf, gapBefore}
 
 -- which child gap g belongs to, and which of that child's gaps it is. `f` says how many entries a child holds

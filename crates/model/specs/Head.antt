@@ -2,7 +2,7 @@
 -- "A head fits when all this holds of its numbers": one line a sentence, in the paper's order.
 -- Assumes nothing: these are definitions.
 use mathlib.Core.Bool.{Bool, false, not, cond}
-use mathlib.Core.List.{List, [], _∷_, _++_, map}
+use mathlib.Core.List.{List, _∷_, map}
 use Prim.Native.Nat.{ℕ, _+_, _*_, _-_}
 use lib.Dec.{leb, eqb}
 use lib.ListN.{length}
@@ -34,17 +34,16 @@ abbrev pub kindWord : List ℕ → ℕ
 kindWord w = word w 8
 
 -- both zero, or neither
-abbrev alike : ℕ → ℕ → Bool
-alike a b = cond (eqb a 0) (eqb b 0) (not (eqb b 0))
+abbrev pub bothOrNeither : ℕ → ℕ → Bool
+bothOrNeither a b = cond (eqb a 0) (eqb b 0) (not (eqb b 0))
 
 -- the words 9 to 31
 abbrev pub spareWords : List ℕ → List ℕ
 spareWords w = tab (headWords - 9) (λ i. word w (9 + i))
 
-unfoldable pub fits : List ℕ → Bool
-fits w =
-    let P = pagesIn (length w) in
-    every (
+-- of a head in a pool of P pages
+abbrev pub headTests : ℕ → List ℕ → List Bool
+headTests P w =
     eqb (word w 0) 1
     ∷ eqb (word w 1) P
     ∷ leb (countWord w) (mostEntries least * P)
@@ -54,11 +53,13 @@ fits w =
     ∷ leb (afterWord w) 1
     ∷ leb (kindWord w) 1
     ∷ leb (kindWord w + openWord w) 1
-    ∷ alike (countWord w) (rootWord w)
-    ∷ alike (countWord w) (levelsWord w)
+    ∷ bothOrNeither (countWord w) (rootWord w)
+    ∷ bothOrNeither (countWord w) (levelsWord w)
     ∷ map (λ x. eqb x 0) (spareWords w)
-    )
 
--- a pool's length and a head that fits
+unfoldable pub fits : List ℕ → Bool
+fits w = every (headTests (pagesIn (length w)) w)
+
+-- a length that is allowed and a head that fits
 unfoldable pub headed : List ℕ → Bool
 headed w = cond (allowed (length w)) (fits w) false

@@ -39,8 +39,11 @@ abbrev pub pagesIn : ℕ → ℕ
 pagesIn n = (n - firstWord 0) / pageWords
 
 -- a length that is allowed
+abbrev pub lengthTests : ℕ → List Bool
+lengthTests n = leb 1 (pagesIn n) ∷ leb (pagesIn n) mostPages ∷ eqb n (firstWord (pagesIn n)) ∷ []
+
 unfoldable pub allowed : ℕ → Bool
-allowed n = every (leb 1 (pagesIn n) ∷ leb (pagesIn n) mostPages ∷ eqb n (firstWord (pagesIn n)) ∷ [])
+allowed n = every (lengthTests n)
 
 -- word i of a pool or of a page
 abbrev pub word : List ℕ → ℕ → ℕ

@@ -1,14 +1,14 @@
 -- Document 01, "The calls", map: insert, get, contains, replace, remove, list entries, keys or values.
 -- The set's calls are the same ones on entries with value 0 (SetCalls).
 -- Assumes nothing: these are definitions.
-use mathlib.Core.Bool.{Bool, not, cond, true, false, _||_}
+use mathlib.Core.Bool.{Bool, cond, false, _||_}
 use mathlib.Core.Option.{Option}
 use mathlib.Core.List.{List, [], _∷_, _++_}
-use Prim.Native.Nat.{ℕ, min}
+use Prim.Native.Nat.{ℕ}
 use lib.Dec.{ltb}
 use lib.ListN.{length, take, drop}
 use Rattle.model.specs.Layout.{least}
-use Rattle.model.specs.Tree.{Entry, Whole}
+use Rattle.model.specs.Tree.{Entry}
 use Rattle.model.specs.Bound.{Bound}
 use Rattle.model.specs.Entries.{has, lookup, gapBefore, between}
 use Rattle.model.specs.Gap.{Found, depth}

@@ -1,11 +1,11 @@
 -- What a sound pool holds: P, its kind, the tree with its levels, and the cursor as a place number. And the same read from words.
 -- Assumes nothing: these are definitions.
 use mathlib.Core.Bool.{cond}
-use mathlib.Core.List.{List, []}
-use Prim.Native.Nat.{ℕ, zero, suc, pred}
+use mathlib.Core.List.{List}
+use Prim.Native.Nat.{ℕ, pred}
 use lib.Dec.{eqb}
 use lib.ListN.{length, getD}
-use Rattle.model.specs.Layout.{least, pagesIn, word}
+use Rattle.model.specs.Layout.{least, pagesIn}
 use Rattle.model.specs.Head.{rootWord, levelsWord, openWord, afterWord, keyWord, kindWord}
 use Rattle.model.specs.PageMap.{freePages}
 use Rattle.model.specs.Tree.{Entry, Whole, empty, held, meets}

@@ -1,7 +1,7 @@
 -- Document 01, "The calls": make, clear, count, is-empty, copy, check.
 -- Check never refuses and says yes exactly for a `Sound` pool, so it needs no definition of its own.
 -- Assumes nothing: these are definitions.
-use mathlib.Core.Bool.{Bool, not, cond, false, _&&_}
+use mathlib.Core.Bool.{Bool, not, _&&_}
 use mathlib.Core.List.{List, [], _∷_, _++_}
 use Prim.Native.Nat.{ℕ}
 use lib.Dec.{leb, eqb}

@@ -7,7 +7,7 @@ use Prim.Native.Nat.{ℕ, zero, suc}
 use lib.Dec.{leb}
 use lib.ListN.{length, drop, getD, set}
 use Rattle.model.specs.Lists.{final}
-use Rattle.model.specs.Tree.{Entry, Node, Tree, Whole, noEntry, entries}
+use Rattle.model.specs.Tree.{Entry, Tree, Whole, noEntry, entries}
 use Rattle.model.specs.Gap.{slotAt, restAt, child, childAt}
 use Rattle.model.specs.Mend.{Plan, plan, count, mend, spare}
 

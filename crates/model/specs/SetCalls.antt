@@ -2,7 +2,7 @@
 -- List is the map's list of keys, with refusals `listTests setKind`.
 -- Assumes nothing: these are definitions.
 use mathlib.Core.Bool.{Bool, not, cond}
-use mathlib.Core.Option.{Option, none, some}
+use mathlib.Core.Option.{none, some}
 use mathlib.Core.List.{[], _∷_}
 use Prim.Native.Nat.{ℕ}
 use Rattle.model.specs.Entries.{has}

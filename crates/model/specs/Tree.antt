@@ -87,6 +87,14 @@ held x = entries (x .levels) (x .tree)
 unfoldable pub meets : ℕ → Whole → ℕ
 meets p x = times p (x .levels) (x .tree)
 
+-- the number of its pages
+unfoldable pub pagesBelow : (h : ℕ) → Tree h → ℕ
+pagesBelow zero t = 0
+pagesBelow (suc h) t = suc (sum (pagesBelow h) (t .children))
+
+unfoldable pub pagesOf : Whole → ℕ
+pagesOf x = pagesBelow (x .levels) (x .tree)
+
 -- the root holds 1 to 2m + 1 entries, every other page m to 2m + 1
 unfoldable pub Formed : ℕ → Whole → Type 0
 Formed m x = Shaped m 1 (x .levels) (x .tree)

@@ -1,0 +1,200 @@
+-- The search by keys goes the way of the gap: code knows no sizes of subtrees, only keys. On rising entries the gap of a key or a bound among a page's own
+-- entries is the slot of its gap in the whole tree, and its gap in that child is the rest. So a search reads the pages of the gap's path.
+-- Assumes nothing.
+use mathlib.Core.Path.{_≡_, refl, ap, subst, _∙_}
+use mathlib.Core.Bool.{Bool, true, cond}
+use mathlib.Core.Option.{some}
+use mathlib.Core.List.{List, [], _∷_, _++_}
+use Prim.Native.Nat.{ℕ, zero, suc, _+_, _-_, _≤_, _<_}
+use native.Mathlib.Omega.{arith}
+use lib.Dec.{ltb, leb·suc-suc}
+use lib.ListN.{length, take, drop, getD}
+use lib.Seq.{drop-cons}
+use borrow.Author.Tests.{le-leb, lt-leb, lt-ltb, le-ltb, eq-eqb, ne-eqb}
+use Rattle.model.specs.Lists.{All}
+use Rattle.model.specs.Tree.{Entry, Tree, noEntry, noTree, weave, entries, size, Rising, Shaped}
+use Rattle.model.specs.Entries.{has, lookup, gapOf, gapBefore}
+use Rattle.model.specs.Gap.{slot, rest, slotAt, restAt, child, childAt, gapPages, gapSlots, depth, seekPages, seekSlots, at, find}
+use Rattle.model.proofs.Cases.{either, either-lt, either-eq}
+use Rattle.model.proofs.Lists.{all-at, all-map}
+use Rattle.model.proofs.Weave.{left, right, weave-at}
+use Rattle.model.proofs.Entries.{Falls, falls-below, rising-left, rising-right, rising-lo, all-under, all-above, gap-le, gap-unique, gap-past, gap-within, lookup-past, lookup-within, has-lookup, has-key, at-true}
+
+-- ---- one page, over a function `f` that says what a child holds
+
+module _ {S : Type 0} (f : S → List Entry) where
+  abbrev long : S → ℕ
+  long s = length (f s)
+
+  -- the child at i rises, and all of it is below the page's own entry i
+  child-on : (ss : List S) (es : List Entry) (i : ℕ) (d : S) → length ss ≡ suc (length es) → i < length ss → Rising (weave f ss es)
+      → Rising (f (getD ss i d) ++ right f (drop i es) (drop (suc i) ss))
+  child-on ss es i d n b r =
+      let l = left f (take i ss) (take i es) in
+      rising-right l (f (getD ss i d) ++ right f (drop i es) (drop (suc i) ss)) (subst Rising (weave-at f ss es i d n b) r)
+
+  pub child-rising : (ss : List S) (es : List Entry) (i : ℕ) (d : S) → length ss ≡ suc (length es) → i < length ss → Rising (weave f ss es)
+      → Rising (f (getD ss i d))
+  child-rising ss es i d n b r = rising-left (f (getD ss i d)) (right f (drop i es) (drop (suc i) ss)) (child-on ss es i d n b r)
+
+  pub child-below : (ss : List S) (es : List Entry) (i : ℕ) (d : S) → length ss ≡ suc (length es) → i < length es → Rising (weave f ss es)
+      → All (λ x. x .key < getD es i noEntry .key) (f (getD ss i d))
+  child-below ss es i d n b r =
+      rising-lo (f (getD ss i d)) (getD es i noEntry) (weave f (drop (suc i) ss) (drop (suc i) es))
+      (rw (drop-cons es i noEntry b) at (child-on ss es i d n (omega arith) r))
+
+  -- the gap of the test in all that the page holds lies in the child at the test's gap among the page's own entries, at the test's gap there
+  pub slot-seek : (before : ℕ → Bool) (ss : List S) (es : List Entry) (d : S) → length ss ≡ suc (length es) → Rising (weave f ss es) → Falls before
+      → (slot long ss (gapOf before (weave f ss es)) ≡ gapOf before es)
+      × (rest long ss (gapOf before (weave f ss es)) ≡ gapOf before (f (getD ss (gapOf before es) d)))
+  unfolding gapOf
+  slot-seek before [] es d k r fall = absurd (omega arith)
+  slot-seek before (s ∷ []) [] d k r fall = rw (le-leb (gapOf before (f s)) (long s) (gap-le before (f s))) (refl, refl)
+  slot-seek before (s ∷ s′ ∷ ss) [] d k r fall = absurd (omega arith)
+  slot-seek before (s ∷ ss) (e ∷ es) d k r fall =
+      let w = weave f ss es in
+      let ih = slot-seek before ss es d (omega arith) (rising-right (f s) (e ∷ w) r .1) fall in
+      either (before (e .key))
+      (λ y.
+      let a = all-map (λ x. x .key < e .key) (λ x. before (x .key) ≡ true) (f s) (λ x l. fall (x .key) (e .key) (omega arith) y) (rising-lo (f s) e w r) in
+      let q : gapOf before (f s ++ e ∷ w) ≡ suc (long s) + gapOf before w = gap-past before (f s) (e ∷ w) a ∙ rw y (omega arith) in
+      let z : suc (long s) + gapOf before w - suc (long s) ≡ gapOf before w = omega arith in
+      rw (q, lt-leb (suc (long s) + gapOf before w) (long s) (omega arith), z, y) (ap suc (ih .0), ih .1))
+      (λ n. rw (gap-within before (f s) e w n, le-leb (gapOf before (f s)) (long s) (gap-le before (f s)), n) (refl, refl))
+
+  -- the key is the page's own entry there, or the child there answers
+  pub lookup-seek : (k : ℕ) (ss : List S) (es : List Entry) (d : S) → length ss ≡ suc (length es) → Rising (weave f ss es)
+      → lookup k (weave f ss es) ≡ cond (at k es (gapBefore k es)) (some (getD es (gapBefore k es) noEntry .value)) (lookup k (f (getD ss (gapBefore k es) d)))
+  unfolding gapOf lookup
+  lookup-seek k [] es d n r = absurd (omega arith)
+  lookup-seek k (s ∷ []) [] d n r = refl
+  lookup-seek k (s ∷ s′ ∷ ss) [] d n r = absurd (omega arith)
+  lookup-seek k (s ∷ ss) (e ∷ es) d n r =
+      let w = weave f ss es in
+      let t = rising-right (f s) (e ∷ w) r in
+      let ih = lookup-seek k ss es d (omega arith) (t .1) in
+      let past : e .key ≤ k → lookup k (f s ++ e ∷ w) ≡ lookup k (e ∷ w) =
+      λ l. lookup-past k (f s) (e ∷ w) (all-under (e .key) k (f s) l (rising-lo (f s) e w r)) in
+      either-lt (e .key) k
+      (λ l. rw (lt-ltb (e .key) k l, leb·suc-suc) (past (omega arith) ∙ rw (ne-eqb (e .key) k (λ q. omega arith)) ih))
+      (λ l. rw (le-ltb (e .key) k l, lt-ltb 0 (suc (length es)) (omega arith))
+      (either-eq (e .key) k
+      (λ q. past (omega arith) ∙ rw (eq-eqb (e .key) k q))
+      (λ o. rw (ne-eqb (e .key) k o) (lookup-within k (f s) (e ∷ w) (omega arith, all-above k (e .key) w l (t .0))))))
+
+  -- then all of the child is below it
+  pub full-seek : (k : ℕ) (ss : List S) (es : List Entry) (d : S) → length ss ≡ suc (length es) → Rising (weave f ss es) → at k es (gapBefore k es) ≡ true
+      → gapBefore k (f (getD ss (gapBefore k es) d)) ≡ length (f (getD ss (gapBefore k es) d))
+  full-seek k ss es d n r h =
+      let i = gapBefore k es in
+      let c = f (getD ss i d) in
+      let here = at-true k es i h in
+      let e = here .1 in
+      let lo = child-below ss es i d n (here .0) r in
+      gap-unique (λ x. ltb x k) c (length c) (omega arith)
+      (λ j l. lt-ltb (getD c j noEntry .key) k (omega (arith, all-at (λ x. x .key < getD es i noEntry .key) c j noEntry l lo)))
+      (λ l. absurd (omega arith))
+
+-- ---- of trees: the way down by keys
+
+-- the child that the search goes on to
+abbrev pub seekChild : (ℕ → Bool) → (h : ℕ) → Tree (suc h) → Tree h
+seekChild before h t = child h t (gapOf before (t .own))
+
+module _ (before : ℕ → Bool) (m low h : ℕ) (t : Tree (suc h)) (s : Shaped m low (suc h) t) (r : Rising (entries (suc h) t)) where
+  seek-inside : gapOf before (t .own) < length (t .children)
+  unfolding Shaped
+  seek-inside = let k = s .forks in omega (arith, gap-le before (t .own))
+
+  pub seek-shaped : Shaped m m h (seekChild before h t)
+  unfolding Shaped
+  seek-shaped = all-at (Shaped m m h) (t .children) (gapOf before (t .own)) (noTree h) seek-inside (s .below)
+
+  pub seek-rising : Rising (entries h (seekChild before h t))
+  unfolding Shaped entries
+  seek-rising = child-rising (entries h) (t .children) (t .own) (gapOf before (t .own)) (noTree h) (s .forks) seek-inside r
+
+  pub seek-slot : Falls before → slotAt h t (gapOf before (entries (suc h) t)) ≡ gapOf before (t .own)
+  unfolding Shaped entries
+  seek-slot f = slot-seek (entries h) before (t .children) (t .own) (noTree h) (s .forks) r f .0
+
+  pub seek-rest : Falls before → restAt h t (gapOf before (entries (suc h) t)) ≡ gapOf before (entries h (seekChild before h t))
+  unfolding Shaped entries
+  seek-rest f = slot-seek (entries h) before (t .children) (t .own) (noTree h) (s .forks) r f .1
+
+module _ (before : ℕ → Bool) where
+  pub seek-slots : (m low h : ℕ) (t : Tree h) → Shaped m low h t → Rising (entries h t) → Falls before
+      → seekSlots before h t ≡ gapSlots h t (gapOf before (entries h t))
+  unfolding seekSlots gapSlots
+  seek-slots m low zero t s r f = refl
+  seek-slots m low (suc h) t s r f =
+      let ih = seek-slots m m h (seekChild before h t) (seek-shaped before m low h t s r) (seek-rising before m low h t s r) f in
+      rw (seek-slot before m low h t s r f, seek-rest before m low h t s r f) (ap (λ (l : List ℕ). gapOf before (t .own) ∷ l) ih)
+
+  pub seek-pages : (m low h : ℕ) (t : Tree h) → Shaped m low h t → Rising (entries h t) → Falls before
+      → seekPages before h t ≡ gapPages h t (gapOf before (entries h t))
+  unfolding seekPages gapPages
+  seek-pages m low zero t s r f = refl
+  seek-pages m low (suc h) t s r f =
+      let ih = seek-pages m m h (seekChild before h t) (seek-shaped before m low h t s r) (seek-rising before m low h t s r) f in
+      rw (seek-slot before m low h t s r f, seek-rest before m low h t s r f) (ap (λ (l : List ℕ). t .page ∷ l) ih)
+
+-- ---- the path of any gap
+
+pub depth-le : (h : ℕ) (t : Tree h) (g : ℕ) → depth h t g ≤ h
+unfolding depth
+depth-le zero t g = omega arith
+depth-le (suc h) t g =
+    either-lt (restAt h t g) (size h (childAt h t g))
+    (λ l. rw (lt-ltb (restAt h t g) (size h (childAt h t g)) l) (omega (arith, depth-le h (childAt h t g) (restAt h t g))))
+    (λ l. rw (le-ltb (restAt h t g) (size h (childAt h t g)) l) (omega arith))
+
+pub path-long : (h : ℕ) (t : Tree h) (g : ℕ) → (length (gapPages h t g) ≡ h) × (length (gapSlots h t g) ≡ h)
+unfolding gapPages gapSlots
+path-long zero t g = (refl, refl)
+path-long (suc h) t g = let p = path-long h (childAt h t g) (restAt h t g) in (ap suc (p .0), ap suc (p .1))
+
+-- ---- what a search for a key answers, and the pages that it reads
+
+pub find-held : (k m low h : ℕ) (t : Tree h) → Shaped m low h t → Rising (entries h t)
+    → find k h t ≡ record { value = lookup k (entries h t); read = cond (has k (entries h t)) (depth h t (gapBefore k (entries h t))) h }
+unfolding find depth entries Shaped has lookup
+find-held k m low zero t s r = refl
+find-held k m low (suc h) t s r =
+    let before : ℕ → Bool = λ x. ltb x k in
+    let c = seekChild before h t in
+    let g = gapBefore k (entries h c) in
+    let ih = find-held k m m h c (seek-shaped before m low h t s r) (seek-rising before m low h t s r) in
+    let v = lookup-seek (entries h) k (t .children) (t .own) (noTree h) (s .forks) r in
+    rw (has-lookup k (entries (suc h) t), v, seek-slot before m low h t s r (falls-below k), seek-rest before m low h t s r (falls-below k))
+    (either (at k (t .own) (gapBefore k (t .own)))
+    (λ y. rw (y, le-ltb g (size h c) (omega (arith, full-seek (entries h) k (t .children) (t .own) (noTree h) (s .forks) r y))))
+    (λ n. rw (n, ih, ← (has-lookup k (entries h c))) (either (has k (entries h c))
+    (λ y. rw (y, lt-ltb g (size h c) (has-key k (entries h c) (seek-rising before m low h t s r) y .0)))
+    (λ o. rw o))))
+
+-- the pages that `find` looks at
+unfoldable pub findPages : ℕ → (h : ℕ) → Tree h → List ℕ
+findPages k zero t = []
+findPages k (suc h) t =
+    let i = gapBefore k (t .own) in
+    t .page ∷ cond (at k (t .own) i) [] (findPages k h (child h t i))
+
+-- they are as many as it says, and the first of the way to the key's gap
+pub find-read : (k h : ℕ) (t : Tree h) → length (findPages k h t) ≡ find k h t .read
+unfolding find findPages
+find-read k zero t = refl
+find-read k (suc h) t =
+    either (at k (t .own) (gapBefore k (t .own))) (λ y. rw y) (λ n. rw n (ap suc (find-read k h (seekChild (λ x. ltb x k) h t))))
+
+pub find-seek : (k h : ℕ) (t : Tree h) → findPages k h t ≡ take (find k h t .read) (seekPages (λ x. ltb x k) h t)
+unfolding find findPages seekPages
+find-seek k zero t = refl
+find-seek k (suc h) t =
+    either (at k (t .own) (gapBefore k (t .own)))
+    (λ y. rw y)
+    (λ n. rw n (ap (λ (l : List ℕ). t .page ∷ l) (find-seek k h (seekChild (λ x. ltb x k) h t))))
+
+pub find-pages : (k m low h : ℕ) (t : Tree h) → Shaped m low h t → Rising (entries h t)
+    → findPages k h t ≡ take (find k h t .read) (gapPages h t (gapBefore k (entries h t)))
+find-pages k m low h t s r = find-seek k h t ∙ ap (take (find k h t .read)) (seek-pages (λ x. ltb x k) m low h t s r (falls-below k))
