@@ -5,7 +5,7 @@ use mathlib.Core.Path.{_≡_, refl, sym, ap, ap₂, subst, _∙_}
 use mathlib.Core.List.{List, [], _∷_, _++_, map}
 use Prim.Native.Nat.{ℕ, zero, suc, pred, _+_, _≤_, _<_}
 use native.Mathlib.Omega.{arith}
-use lib.ListN.{length, take, drop, getD, length-take, length-drop, length-map, List·getD-eq-default}
+use lib.ListN.{length, take, drop, getD, length-take, length-drop, List·getD-eq-default}
 use lib.Seq.{take-add, getD-take, getD-drop, ext-getD}
 use borrow.Author.Tests.{eq-eqb, ne-eqb}
 use Rattle.model.specs.Lists.{tab, sum, All}
@@ -13,16 +13,17 @@ use Rattle.model.specs.Layout.{headWords, mapWords, least, mostEntries, 
 use Rattle.model.specs.Head.{countWord, rootWord, levelsWord, openWord, afterWord, keyWord}
 use Rattle.model.specs.PageMap.{mapOf}
 use Rattle.model.specs.Tree.{Entry, Tree, Whole, noEntry, times, held, meets}
-use Rattle.model.specs.Page.{pageOf, countOf, heightOf, entriesOf, childrenOf, readTree, Heights}
+use Rattle.model.specs.Page.{pageOf, heightOf, entriesOf, childrenOf, readTree, Heights}
 use Rattle.model.specs.Entries.{Cursor, shut, gap}
 use Rattle.model.specs.Pool.{Pool, heldBy, wholeOf, cursorOf, poolOf}
 use Rattle.model.specs.Sound.{Sound}
 use Rattle.model.specs.Alike.{AlikePage, Alike}
 use Rattle.model.proofs.Cases.{either-eq, either-lt, same-other}
-use Rattle.model.proofs.Lists.{length-tab, all-map, all-image, getD-tab}
+use Rattle.model.proofs.Lists.{all-map, all-image, getD-tab}
 use Rattle.model.proofs.Entries.{has-key, gap-after-has}
 use Rattle.model.proofs.Head.{HeadFacts, head-facts}
 use Rattle.model.proofs.PageMap.{map-ext}
+use Rattle.model.proofs.Read.{length-own}
 
 -- ---- a tree that stands in pages
 
@@ -42,11 +43,6 @@ module _ (m : ℕ) (pages : ℕ → List ℕ) where
   unfoldable pub Standing : (h : ℕ) → Tree h → Type 0
   Standing zero t = Unit {0}
   Standing (suc h) t = Stands h t × All (Standing h) (t .children)
-
-  -- a page that was read has one child more than entries, whatever its words are
-  pub read-forks : (h p : ℕ) → length (readTree m pages (suc h) p .children) ≡ suc (length (readTree m pages (suc h) p .own))
-  unfolding readTree entriesOf childrenOf
-  read-forks h p = simp (length-map, length-tab)
 
   -- the root's word, 0 where there are no levels
   pub read-root : (h r : ℕ) → (h ≡ 0 → r ≡ 0) → (0 < h → 0 < r) → r ≡ rootOf h (readTree m pages h (pred r))
@@ -70,14 +66,10 @@ module _ (m : ℕ) (pages : ℕ → List ℕ) where
 
 -- ---- one tree in two pools
 
-length-entriesOf : (most : ℕ) (page : List ℕ) → length (entriesOf most page) ≡ countOf page
-unfolding entriesOf
-length-entriesOf most page = length-tab (countOf page) _
-
 module _ (pages pages′ : ℕ → List ℕ) (p : ℕ) where
   page-alike : (h : ℕ) (t : Tree (suc h)) → p ≡ t .page → Stands least pages h t → Stands least pages′ h t → AlikePage (pages p) (pages′ p)
   page-alike h t e a b = rw e (record {
-    count = sym (length-entriesOf (mostEntries least) (pages (t .page))) ∙ ap length (a .own ∙ sym (b .own)) ∙ length-entriesOf (mostEntries least) (pages′ (t .page));
+    count = sym (length-own (mostEntries least) (pages (t .page))) ∙ ap length (a .own ∙ sym (b .own)) ∙ length-own (mostEntries least) (pages′ (t .page));
     height = a .height ∙ sym (b .height);
     entries = a .own ∙ sym (b .own);
     children = λ l. let l′ : 0 < h = rw (a .height) at l in a .children l′ ∙ sym (b .children l′);

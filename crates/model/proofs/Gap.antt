@@ -1,13 +1,13 @@
 -- A gap lies in one child of a page, at one of that child's gaps, and in no other. Over a function `f` that says what a child holds; then of trees.
 -- Assumes nothing.
-use mathlib.Core.Path.{_≡_, sym, ap, ap₂, _∙_}
+use mathlib.Core.Path.{_≡_, sym, ap, ap₂, _∙_, refl}
 use mathlib.Core.List.{List, [], _∷_, _++_}
 use Prim.Native.Nat.{ℕ, suc, _+_, _-_, _≤_, _<_}
 use native.Mathlib.Omega.{arith}
 use lib.ListN.{length, take, drop, getD, length-append}
 use borrow.Author.Tests.{le-leb, lt-leb}
 use Rattle.model.specs.Lists.{ins, sum}
-use Rattle.model.specs.Tree.{Tree, noTree, weave, entries, size, Shaped}
+use Rattle.model.specs.Tree.{Tree, noTree, weave, entries, size, Shaped, Entry}
 use Rattle.model.specs.Gap.{slot, rest, slotAt, restAt, childAt}
 use Rattle.model.proofs.Cases.{either-le}
 use Rattle.model.proofs.Lists.{ins-inside, all-at}
@@ -63,6 +63,22 @@ module _ {S A : Type 0} (f : S → List A) where
 pub size-suc : (m low h : ℕ) (t : Tree (suc h)) → Shaped m low (suc h) t → size (suc h) t ≡ length (t .own) + sum (size h) (t .children)
 unfolding entries Shaped
 size-suc m low h t s = length-weave (entries h) (t .children) (t .own) (s .forks)
+
+-- a page with an entry holds an entry
+pub size-some : (m low h : ℕ) (t : Tree (suc h)) → 1 ≤ low → Shaped m low (suc h) t → 1 ≤ size (suc h) t
+unfolding Shaped
+size-some m low h t l s = omega (arith, size-suc m low h t s, s .few)
+
+-- a leaf holds its own entries
+pub leaf-holds : (ss : List (Tree 0)) (es : List Entry) → weave (entries 0) ss es ≡ es
+unfolding entries
+leaf-holds [] es = refl
+leaf-holds (s ∷ ss) [] = refl
+leaf-holds (s ∷ ss) (e ∷ es) = ap (λ (r : List Entry). e ∷ r) (leaf-holds ss es)
+
+pub leaf-entries : (t : Tree 1) → entries 1 t ≡ t .own
+unfolding entries
+leaf-entries t = leaf-holds (t .children) (t .own)
 
 module _ (m low h : ℕ) (t : Tree (suc h)) (g : ℕ) (s : Shaped m low (suc h) t) (b : g ≤ size (suc h) t) where
   pub way-down : Located (entries h) (t .children) (t .own) (noTree h) g (slotAt h t g) (restAt h t g)

@@ -26,5 +26,9 @@ pub mod Room
 -- the tree read from words, and what two pools that hold the same share
 pub mod Read
 pub mod Alike
+-- what a pool holds, and what each call makes of it
+pub mod Right
+pub mod Calls
+pub mod Keeps
 -- the bench cases
 pub mod Bench

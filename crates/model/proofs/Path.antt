@@ -9,12 +9,11 @@ use lib.ListN.{length, getD, set, length-append}
 use lib.Seq.{set-getD}
 use borrow.Author.Tests.{le-leb, lt-leb}
 use Rattle.model.specs.Lists.{final}
-use Rattle.model.specs.Tree.{Entry, Node, Tree, noEntry, noNode, noTree, weave, entries, size, Shaped}
+use Rattle.model.specs.Tree.{Node, Tree, noEntry, noNode, noTree, weave, entries, size, Shaped}
 use Rattle.model.specs.Gap.{slot, rest, slotAt, restAt, child, childAt}
 use Rattle.model.specs.Mend.{Plan, keep, move, join, mend}
 use Rattle.model.specs.Remove.{lost, planAt, step, removeAt}
-use Rattle.model.proofs.Weave.{weave-long}
-use Rattle.model.proofs.Gap.{child-shaped}
+use Rattle.model.proofs.Gap.{child-shaped, leaf-entries, size-some}
 use Rattle.model.proofs.Lists.{final-append, final-other}
 
 -- ---- the end of a page, over a function `f` that says what a child holds
@@ -56,20 +55,6 @@ leafAt (suc h) t g = leafAt h (childAt (suc h) t g) (restAt (suc h) t g)
 abbrev pub gapAtLeaf : (h : ℕ) → Tree (suc h) → ℕ → ℕ
 gapAtLeaf zero t g = g
 gapAtLeaf (suc h) t g = gapAtLeaf h (childAt (suc h) t g) (restAt (suc h) t g)
-
--- a leaf holds its own entries
-pub leaf-entries : (t : Tree 1) → entries 1 t ≡ t .own
-unfolding entries
-leaf-entries t = only (t .children) (t .own)
-  where
-    only : (ss : List (Tree 0)) (es : List Entry) → weave (entries 0) ss es ≡ es
-    only [] es = refl
-    only (s ∷ ss) [] = refl
-    only (s ∷ ss) (e ∷ es) = ap (λ (r : List Entry). e ∷ r) (only ss es)
-
-pub size-some : (m low h : ℕ) (t : Tree (suc h)) → 1 ≤ low → Shaped m low (suc h) t → 1 ≤ size (suc h) t
-unfolding entries Shaped
-size-some m low h t b s = omega (arith, s .few, weave-long (entries h) (t .children) (t .own) (s .forks))
 
 -- where the gap is the tree's end, so it is all the way down
 module _ (m low h : ℕ) (t : Tree (suc h)) (g : ℕ) (s : Shaped m low (suc h) t) (e : g ≡ size (suc h) t) where

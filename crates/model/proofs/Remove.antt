@@ -14,7 +14,7 @@ use Rattle.model.specs.Gap.{slotAt, restAt, child, childAt}
 use Rattle.model.specs.Remove.{gone, lost, planAt, step, stepFreed, removeAt, freedAt, collapse, collapseFreed, removeIn, freedIn, remove, freed}
 use Rattle.model.proofs.Cases.{either-le}
 use Rattle.model.proofs.Lists.{all-take, all-drop, all-at, all-map}
-use Rattle.model.proofs.Gap.{size-suc, way-down, child-shaped}
+use Rattle.model.proofs.Gap.{way-down, child-shaped, leaf-holds, size-some}
 use Rattle.model.proofs.Gone.{Some, gone-length, gone-at, weave-gone}
 use Rattle.model.proofs.Mend.{filled-loosen, Able, plan-able, mend-holds, mend-passes, mend-filled}
 use Rattle.model.proofs.Sums.{sum-append, sum-set}
@@ -32,13 +32,7 @@ sum-only f [] d k = absurd (omega arith)
 sum-only f (s ∷ []) d k = omega arith
 sum-only f (s ∷ s′ ∷ ss) d k = absurd (omega arith)
 
--- ---- trees of no levels hold nothing and have no page
-
-weave-none : (ss : List (Tree 0)) (es : List Entry) → length ss ≡ suc (length es) → weave (entries 0) ss es ≡ es
-unfolding entries
-weave-none [] es k = absurd (omega arith)
-weave-none (s ∷ ss) [] k = refl
-weave-none (s ∷ ss) (e ∷ es) k = ap (λ (r : List Entry). e ∷ r) (weave-none ss es (omega arith))
+-- ---- trees of no levels have no page
 
 sum-none : (p : ℕ) (ss : List (Tree 0)) → sum (times p 0) ss ≡ 0
 unfolding times
@@ -46,10 +40,6 @@ sum-none p [] = refl
 sum-none p (s ∷ ss) = omega (arith, sum-none p ss)
 
 -- ---- what is proved of a removal at every level
-
-pub shaped-some : (m low h : ℕ) (t : Tree (suc h)) → 1 ≤ low → Shaped m low (suc h) t → 1 ≤ size (suc h) t
-unfolding Shaped
-shaped-some m low h t l s = omega (arith, size-suc m low h t s, s .few)
 
 -- c is t without the entry after gap g, and the pages `free` have gone; the page at the top may have one entry less
 record Without (m low h : ℕ) (t : Tree (suc h)) (g : ℕ) (c : Tree (suc h)) (free : List ℕ) : Type 0 where
@@ -71,8 +61,7 @@ leaf-without m low t g c pl s =
         below = all-drop (Shaped m m 0) 1 (t .children) (s .below);
       };
       left =
-          weave-none (drop 1 (t .children)) (gone g (t .own)) (simp length-drop (omega (arith, s .forks)))
-          ∙ sym (ap (gone g) (weave-none (t .children) (t .own) (s .forks)));
+          leaf-holds (drop 1 (t .children)) (gone g (t .own)) ∙ sym (ap (gone g) (leaf-holds (t .children) (t .own)));
       met = λ p. omega (arith, sum-none p (t .children), sum-none p (drop 1 (t .children)));
     }
 
@@ -110,7 +99,7 @@ module _ (m low h : ℕ) (t : Tree (suc (suc h))) (g : ℕ) (pm : 1 ≤ m) (pl :
     left =
         mend-holds (Shaped m m h) m u u-forks (entries h) (planAt m h u i) u-able
         ∙ weave-gone (entries (suc h)) (t .children) (t .own) (noTree (suc h)) c g (s .forks)
-        (all-map (Shaped m m (suc h)) (Some (entries (suc h))) (t .children) (λ x a. shaped-some m m h x pm a) (s .below)) b (w .left);
+        (all-map (Shaped m m (suc h)) (Some (entries (suc h))) (t .children) (λ x a. size-some m m h x pm a) (s .below)) b (w .left);
     met = λ p. omega (
       arith,
       w .met p,
