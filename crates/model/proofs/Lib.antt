@@ -23,12 +23,15 @@ pub mod Write
 -- the numbers of demand 3
 pub mod Numbers
 pub mod Room
--- the tree read from words, and what two pools that hold the same share
+-- the tree read from pages, and standing in them
 pub mod Read
-pub mod Alike
+pub mod Standing
 -- what a pool holds, and what each call makes of it
 pub mod Right
 pub mod Calls
 pub mod Keeps
+-- the words that hold a pool, and what two pools that hold the same share
+pub mod Written
+pub mod Alike
 -- the bench cases
 pub mod Bench

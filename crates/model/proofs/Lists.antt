@@ -126,6 +126,14 @@ next-none [] i b = refl
 next-none (x ∷ xs) zero b = absurd (omega arith)
 next-none (x ∷ xs) (suc i) b = next-none xs i (omega arith)
 
+pub all-any : {A : Type 0} (P : A → Type 0) (l : List A) → ((x : A) → P x) → All P l
+all-any P [] f = tt
+all-any P (x ∷ xs) f = (f x, all-any P xs f)
+
+pub all-both : {A : Type 0} (P Q R : A → Type 0) (l : List A) → ((x : A) → P x → Q x → R x) → All P l → All Q l → All R l
+all-both P Q R [] f a b = tt
+all-both P Q R (x ∷ xs) f a b = (f x (a .0) (b .0), all-both P Q R xs f (a .1) (b .1))
+
 pub all-map : {A : Type 0} (P Q : A → Type 0) (l : List A) → ((x : A) → P x → Q x) → All P l → All Q l
 all-map P Q [] f a = tt
 all-map P Q (x ∷ xs) f a = (f x (a .0), all-map P Q xs f (a .1))

@@ -1,0 +1,119 @@
+-- A tree stands in pages: each of its pages has the words that say so. That is what reading finds, and what writing has to show: a tree that stands in
+-- pages is read from them, its heights are right, and whoever changes none of its pages changes nothing of it.
+-- Assumes nothing.
+use mathlib.Core.Path.{_≡_, refl, ap, ap₂, _∙_}
+use mathlib.Core.List.{List, [], _∷_, map}
+use Prim.Native.Nat.{ℕ, zero, suc, pred, _<_}
+use native.Mathlib.Omega.{arith}
+use lib.ListN.{length, length-map}
+use Rattle.model.specs.Lists.{All, sum}
+use Rattle.model.specs.Layout.{mostEntries}
+use Rattle.model.specs.Tree.{Tree, Shaped, Entry, times}
+use Rattle.model.specs.Page.{heightOf, entriesOf, childrenOf, readTree, Heights}
+use Rattle.model.proofs.Lists.{all-map, all-image, all-any, all-both}
+use Rattle.model.proofs.Read.{length-children, length-own}
+use Rattle.model.proofs.Cases.{same-self}
+
+-- ---- a tree that stands in pages
+
+-- the number of the root's page plus 1; 0 where there is none
+abbrev pub rootOf : (h : ℕ) → Tree h → ℕ
+rootOf zero t = 0
+rootOf (suc h) t = suc (t .page)
+
+module _ (m : ℕ) (pages : ℕ → List ℕ) where
+  -- what the words of the root's page say; a leaf's child words may be anything
+  pub record Stands (h : ℕ) (t : Tree (suc h)) : Type 0 where
+    pub height : heightOf (pages (t .page)) ≡ h
+    pub own : entriesOf (mostEntries m) (pages (t .page)) ≡ t .own
+    pub children : 0 < h → childrenOf (mostEntries m) (pages (t .page)) ≡ map (λ c. pred (rootOf h c)) (t .children)
+
+  -- so of each page of the tree
+  unfoldable pub Standing : (h : ℕ) → Tree h → Type 0
+  Standing zero t = Unit {0}
+  Standing (suc h) t = Stands h t × All (Standing h) (t .children)
+
+  -- the root's word, 0 where there are no levels
+  pub read-root : (h r : ℕ) → (h ≡ 0 → r ≡ 0) → (0 < h → 0 < r) → r ≡ rootOf h (readTree m pages h (pred r))
+  unfolding readTree
+  read-root zero r none some = none refl
+  read-root (suc h) r none some = let e : r ≡ suc (pred r) = omega (arith, some (omega arith)) in e
+
+  read-roots : (h : ℕ) (ps : List ℕ) → 0 < h → ps ≡ map (λ c. pred (rootOf h c)) (map (readTree m pages h) ps)
+  read-roots h [] l = refl
+  read-roots h (p ∷ ps) l = ap₂ _∷_ (ap pred (read-root h (suc p) (λ z. omega arith) (λ l. omega arith))) (read-roots h ps l)
+
+  -- the tree that was read stands there
+  pub read-standing : (h p : ℕ) → Heights m pages h p → Standing h (readTree m pages h p)
+  unfolding readTree Heights Standing
+  read-standing zero p k = tt
+  read-standing (suc h) p k =
+      let ps = childrenOf (mostEntries m) (pages p) in (
+        record { height = k .0; own = refl; children = read-roots h ps },
+        all-image (readTree m pages h) (Standing h) ps (all-map (Heights m pages h) (λ q. Standing h (readTree m pages h q)) ps (read-standing h) (k .1)),
+      )
+
+-- ---- and the tree that stands there is read
+
+pub map-roots : (m : ℕ) (pages : ℕ → List ℕ) (h : ℕ) (ts : List (Tree h)) → All (λ t. readTree m pages h (pred (rootOf h t)) ≡ t) ts
+    → map (readTree m pages h) (map (λ c. pred (rootOf h c)) ts) ≡ ts
+map-roots m pages h [] a = refl
+map-roots m pages h (t ∷ ts) a = ap₂ _∷_ (a .0) (map-roots m pages h ts (a .1))
+
+-- trees of no levels are all alike, so as many are the same
+same-units : (us vs : List (Unit {0})) → length us ≡ length vs → us ≡ vs
+same-units [] [] e = refl
+same-units [] (v ∷ vs) e = absurd (omega arith)
+same-units (u ∷ us) [] e = absurd (omega arith)
+same-units (u ∷ us) (v ∷ vs) e = ap (λ (r : List (Unit {0})). tt ∷ r) (same-units us vs (omega arith))
+
+children-read : (m : ℕ) (pages : ℕ → List ℕ) (h : ℕ) (t : Tree (suc h)) → length (t .children) ≡ suc (length (t .own)) → Stands m pages h t
+    → All (λ c. readTree m pages h (pred (rootOf h c)) ≡ c) (t .children)
+    → map (readTree m pages h) (childrenOf (mostEntries m) (pages (t .page))) ≡ t .children
+children-read m pages zero t k a all =
+    let page = pages (t .page) in
+    same-units (map (readTree m pages 0) (childrenOf (mostEntries m) page)) (t .children)
+    (omega (
+      arith,
+      length-map (childrenOf (mostEntries m) page) (readTree m pages 0),
+      length-children (mostEntries m) page,
+      length-own (mostEntries m) page,
+      ap length (a .own),
+    ))
+children-read m pages (suc h) t k a all = ap (map (readTree m pages (suc h))) (a .children (omega arith)) ∙ map-roots m pages (suc h) (t .children) all
+
+pub standing-read : (m low : ℕ) (pages : ℕ → List ℕ) (h : ℕ) (t : Tree h) → Shaped m low h t → Standing m pages h t
+    → readTree m pages h (pred (rootOf h t)) ≡ t
+unfolding Shaped Standing readTree
+standing-read m low pages zero t s a = refl
+standing-read m low pages (suc h) t s a =
+    ap₂ (λ (own : List Entry) (children : List (Tree h)). record { page = t .page; own = own; children = children }) (a .0 .own)
+    (children-read m pages h t (s .forks) (a .0) (all-both (Shaped m m h) (Standing m pages h) _ (t .children) (standing-read m m pages h) (s .below) (a .1)))
+
+-- its heights are right
+pub standing-heights : (m : ℕ) (pages : ℕ → List ℕ) (h : ℕ) (t : Tree h) → Standing m pages h t → Heights m pages h (pred (rootOf h t))
+unfolding Standing Heights
+standing-heights m pages zero t a = tt
+standing-heights m pages (suc zero) t a = (a .0 .height, all-any (λ p. Unit {0}) (childrenOf (mostEntries m) (pages (t .page))) (λ p. tt))
+standing-heights m pages (suc (suc h)) t a = (
+  a .0 .height,
+  rw (a .0 .children (omega arith))
+      (all-image (λ c. pred (rootOf (suc h) c)) (Heights m pages (suc h)) (t .children)
+      (all-map (Standing m pages (suc h)) _ (t .children) (standing-heights m pages (suc h)) (a .1))),
+)
+
+-- who changes none of its pages changes nothing of it
+module _ (m : ℕ) (pages pages′ : ℕ → List ℕ) where
+  all-frame : (h : ℕ) → ((t : Tree h) → ((q : ℕ) → 0 < times q h t → pages q ≡ pages′ q) → Standing m pages h t → Standing m pages′ h t)
+      → (ts : List (Tree h)) → ((q : ℕ) → 0 < sum (times q h) ts → pages q ≡ pages′ q) → All (Standing m pages h) ts → All (Standing m pages′ h) ts
+  all-frame h one [] e a = tt
+  all-frame h one (t ∷ ts) e a = (one t (λ q l. e q (omega arith)) (a .0), all-frame h one ts (λ q l. e q (omega arith)) (a .1))
+
+  pub standing-frame : (h : ℕ) (t : Tree h) → ((q : ℕ) → 0 < times q h t → pages q ≡ pages′ q) → Standing m pages h t → Standing m pages′ h t
+  unfolding Standing times
+  standing-frame zero t e a = tt
+  standing-frame (suc h) t e a =
+      let here : pages (t .page) ≡ pages′ (t .page) = e (t .page) (omega (arith, same-self (t .page))) in (
+        record { height = rw (← here) (a .0 .height); own = rw (← here) (a .0 .own); children = λ l. rw (← here) (a .0 .children l) },
+        all-frame h (standing-frame h) (t .children) (λ q l. e q (omega arith)) (a .1),
+      )
