@@ -2,6 +2,7 @@
 -- Assumes nothing.
 use mathlib.Core.Path.{refl}
 use Rattle.model.specs.Lists.{same}
+use Rattle.model.specs.Layout.{allowed}
 use Rattle.model.specs.PageMap.{freeFrom, freePages}
 use Rattle.model.specs.Tree.{entries, times, held, meets}
 use Rattle.model.specs.Entries.{has, lookup, gapOf, keyFits}
@@ -11,7 +12,7 @@ use Rattle.model.specs.Remove.{step, removeAt, collapse, removeIn, remov
 use Rattle.model.specs.Write.{writeAt, write}
 use Rattle.model.specs.Pool.{freeOf}
 use Rattle.model.specs.MapCalls.{file, noRoom, strike}
-use Rattle.model.specs.Bench.{Table}
+use Rattle.model.specs.Bench.{Table, Lengths}
 
 pub table : Table
 unfolding same freeFrom freePages entries times held meets has lookup gapOf keyFits fit put insertAt top insert run needed fromRight repair plan mend spare step removeAt collapse removeIn remove writeAt write freeOf file noRoom strike
@@ -36,3 +37,7 @@ table = record {
   n = refl;
   n-free = refl;
 }
+
+pub lengths : Lengths
+unfolding allowed
+lengths = record { smallest = refl; usual = refl; usual-pages = refl; largest = refl; refused = refl }

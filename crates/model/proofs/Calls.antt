@@ -2,25 +2,25 @@
 -- Assumes nothing.
 use mathlib.Core.Path.{_≡_, subst, refl}
 use mathlib.Core.Bool.{true, false, Bool}
+use mathlib.Core.List.{List}
 use Prim.Native.Nat.{ℕ, zero, _<_, suc, pred}
 use native.Mathlib.Omega.{arith}
-use Rattle.model.specs.Pool.{Pool, heldBy, gapBy, withWhole, freshOf, withCursor}
-use Rattle.model.proofs.Right.{Right, right-remove, right-write, right-put, right-cursor}
+use lib.Dec.{ltb}
+use lib.ListN.{length}
+use Rattle.model.specs.Layout.{least}
 use Rattle.model.specs.Tree.{Entry, noEntry}
-use Rattle.model.specs.MapCalls.{file, strike, noRoom, entry, crowded, putAt}
 use Rattle.model.specs.Entries.{has, filed, removed, shut, gapBefore, keyFits, gap, back, forth, gapOf}
+use Rattle.model.specs.Write.{write}
+use Rattle.model.specs.Pool.{Pool, heldBy, gapBy, withWhole, freshOf, withCursor}
+use Rattle.model.specs.MapCalls.{file, strike, noRoom, entry, crowded, putAt}
 use Rattle.model.specs.CursorCalls.{rewrite, nextOf, prevOf, strikeNext}
 use Rattle.model.proofs.Cases.{either, either-lt}
-use lib.ListN.{length}
+use Rattle.model.proofs.Lists.{next-some, next-none}
+use Rattle.model.proofs.Entries.{keyAt, has-key, gap-le, absent-fits}
+use Rattle.model.proofs.Insert.{insert-held}
 use Rattle.model.proofs.Remove.{remove-held}
 use Rattle.model.proofs.Write.{write-held}
-use Rattle.model.proofs.Entries.{keyAt, has-key, gap-le, absent-fits}
-use Rattle.model.specs.Layout.{least}
-use Rattle.model.proofs.Insert.{insert-held}
-use Rattle.model.specs.Write.{write}
-use lib.Dec.{ltb}
-use mathlib.Core.List.{List}
-use Rattle.model.proofs.Lists.{next-some, next-none}
+use Rattle.model.proofs.Right.{Right, right-remove, right-write, right-put, right-cursor}
 
 -- ---- map and set
 

@@ -11,8 +11,8 @@ use Rattle.model.specs.Layout.{mostEntries}
 use Rattle.model.specs.Tree.{Entry, Node, noEntry, holds, passes, Filled}
 use Rattle.model.specs.Insert.{cutLeft, cutRight}
 use Rattle.model.proofs.Lists.{all-take, all-drop}
-use Rattle.model.proofs.Weave.{weave-cut-at}
 use Rattle.model.proofs.Sums.{sum-cut}
+use Rattle.model.proofs.Weave.{weave-cut-at}
 
 pub cut-holds : {S : Type 0} (f : S → List Entry) (q n : ℕ) (x : Node S) → length (x .children) ≡ suc (length (x .own)) → n < length (x .own)
     → holds f x ≡ holds f (cutLeft n x) ++ getD (x .own) n noEntry ∷ holds f (cutRight q n x)

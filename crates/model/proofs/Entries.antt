@@ -3,9 +3,9 @@
 -- Assumes nothing.
 use mathlib.Core.Path.{_≡_, refl, sym, ap, _∙_}
 use mathlib.Core.Bool.{Bool, true, false, cond}
+use mathlib.Core.Logic.{_≢_}
 use mathlib.Core.Option.{Option, none, some}
 use mathlib.Core.List.{List, [], _∷_, _++_}
-use mathlib.Core.Logic.{_≢_}
 use Prim.Native.Nat.{ℕ, zero, suc, _+_, _≤_, _<_}
 use native.Mathlib.Omega.{arith}
 use lib.Dec.{leb, ltb, eqb, leb·suc-suc}
@@ -36,14 +36,16 @@ falls-below k a b l h = lt-ltb a k (omega (arith, ltb-true b k h))
 pub falls-up-to : (k : ℕ) → Falls (λ x. leb x k)
 falls-up-to k a b l h = le-leb a k (omega (arith, leb-true b k h))
 
+ruleset falls = (falls-below, falls-up-to)
+
 pub falls-lower : (b : Bound) → Falls (beforeLower b)
-falls-lower (included k) = falls-below k
-falls-lower (excluded k) = falls-up-to k
+falls-lower (included k) = search falls
+falls-lower (excluded k) = search falls
 falls-lower unbounded = λ a b l h. h
 
 pub falls-upper : (b : Bound) → Falls (beforeUpper b)
-falls-upper (included k) = falls-up-to k
-falls-upper (excluded k) = falls-below k
+falls-upper (included k) = search falls
+falls-upper (excluded k) = search falls
 falls-upper unbounded = λ a b l h. refl
 
 -- the same from the other side
@@ -133,11 +135,11 @@ lookup-none k [] a = refl
 lookup-none k (e ∷ es) a = let l : k < e .key = a .0 in rw (ne-eqb (e .key) k (λ q. omega arith)) (lookup-none k es (a .1))
 
 -- a key is there where it has a value
-abbrev pub given : Option ℕ → Bool
-given none = false
-given (some v) = true
+abbrev pub there : Option ℕ → Bool
+there none = false
+there (some v) = true
 
-pub has-lookup : (k : ℕ) (es : List Entry) → has k es ≡ given (lookup k es)
+pub has-lookup : (k : ℕ) (es : List Entry) → has k es ≡ there (lookup k es)
 unfolding has lookup
 has-lookup k [] = refl
 has-lookup k (e ∷ es) = either (eqb (e .key) k) (λ y. rw y) (λ n. rw n (has-lookup k es))
@@ -229,12 +231,17 @@ pub record Fits (k g : ℕ) (es : List Entry) : Type 0 where
 pub fits-true : (k g : ℕ) (es : List Entry) → g ≤ length es → Fits k g es → keyFits k g es ≡ true
 unfolding keyFits
 fits-true k g es b f =
-    rw (above-prev g b (f .front))
-    (either-lt g (length es) (λ l. rw (next-some es g noEntry l, lt-ltb k (keyAt es g) (f .back g (omega arith) l))) (λ l. rw (next-none es g l)))
+    rw (above-prev g b (f .front), under-next)
   where
+    under-next : under (next g es) k ≡ true
+    under-next =
+        either-lt g (length es)
+        (λ l. let h : k < keyAt es g = f .back g (omega arith) l in rw (next-some es g noEntry l) (omega (arith, lt-ltb, le-leb)))
+        (λ l. rw (next-none es g l))
+
     above-prev : (g : ℕ) → g ≤ length es → ((i : ℕ) → i < g → keyAt es i < k) → above (prev g es) k ≡ true
     above-prev zero b f = refl
-    above-prev (suc g) b f = rw (next-some es g noEntry b) (lt-ltb (keyAt es g) k (f g (omega arith)))
+    above-prev (suc g) b f = let h : keyAt es g < k = f g (omega arith) in rw (next-some es g noEntry b) (omega (arith, lt-ltb, le-leb))
 
 pub true-fits : (k g : ℕ) (es : List Entry) → Rising es → g ≤ length es → keyFits k g es ≡ true → Fits k g es
 unfolding keyFits
@@ -243,14 +250,16 @@ true-fits k g es r b h =
     record {
       front = front g b (p .0);
       back = λ i l c.
-          let k<g : k < keyAt es g = ltb-true k (keyAt es g) (rw (next-some es g noEntry (omega arith)) at (p .1)) in
+          let q = rw (next-some es g noEntry (omega arith)) at (p .1) in
+          let k<g : k < keyAt es g = omega (arith, ltb-true, leb-true) in
           either-lt g i (λ m. omega (arith, rising-at es r g i m c)) (λ m. let q : i ≡ g = omega arith in rw q k<g);
     }
   where
     front : (g : ℕ) → g ≤ length es → above (prev g es) k ≡ true → (i : ℕ) → i < g → keyAt es i < k
     front zero b h i l = absurd (omega arith)
     front (suc g) b h i l =
-        let g<k : keyAt es g < k = ltb-true (keyAt es g) k (rw (next-some es g noEntry b) at h) in
+        let q = rw (next-some es g noEntry b) at h in
+        let g<k : keyAt es g < k = omega (arith, ltb-true, leb-true) in
         either-lt i g (λ m. omega (arith, rising-at es r i g m b)) (λ m. let q : i ≡ g = omega arith in rw q g<k)
 
 -- it fits at the gap of the key, where the key is not there yet, and nowhere else

@@ -15,13 +15,13 @@ use Rattle.model.specs.Lists.{ins, sumTo, same, All}
 use Rattle.model.specs.Layout.{mostEntries}
 use Rattle.model.specs.Tree.{Entry, Node, Tree, Whole, noTree, holds, entries, size, passes, times, Filled, Shaped, held, meets, Formed}
 use Rattle.model.specs.Gap.{slotAt, restAt, childAt}
-use Rattle.model.specs.Insert.{Up, whole, split, fit, grown, put, insertAt, top, insert, onward, run, needed}
+use Rattle.model.specs.Insert.{Up, whole, split, fit, grown, put, insertAt, top, insert, onward, run, needed, kept}
 use Rattle.model.proofs.Cases.{either-le, either-eq}
 use Rattle.model.proofs.Lists.{length-ins, all-splice}
+use Rattle.model.proofs.Sums.{sum-splice}
 use Rattle.model.proofs.Weave.{left, right, weave-one, weave-two}
 use Rattle.model.proofs.Gap.{located-ins, way-down, child-shaped, slot-le}
 use Rattle.model.proofs.Cut.{cut-holds, cut-passes, cut-left-filled, cut-right-filled}
-use Rattle.model.proofs.Sums.{sum-splice}
 
 -- ---- what is handed up
 
@@ -56,7 +56,7 @@ module _ {S : Type 0} (m q : ℕ) where
   fit-holds f x k =
       either-le (length (x .own)) (mostEntries m)
       (λ room. rw le-leb)
-      (λ full. rw lt-leb (sym (cut-holds f q (suc m) x k (omega arith))))
+      (λ full. rw lt-leb (sym (cut-holds f q (kept m) x k (omega arith))))
 
   -- what was handed up, in the place of what child i held
   put-holds : (f : S → List Entry) (x : Node S) (i : ℕ) (o : Up S) → length (x .children) ≡ suc (length (x .own)) → i < length (x .children)
@@ -82,8 +82,8 @@ module _ {S : Type 0} (m q : ℕ) where
       either-le (length (x .own)) (mostEntries m)
       (λ room. rw le-leb (record { forks = k; few = few; many = room; below = a }))
       (λ full. rw lt-leb (
-        cut-left-filled Q m (suc m) x k a (omega arith) (omega arith) (omega arith),
-        cut-right-filled Q m q (suc m) x k a (omega arith) (omega arith) (omega arith),
+        cut-left-filled Q m (kept m) x k a (omega arith) (omega arith) (omega arith),
+        cut-right-filled Q m q (kept m) x k a (omega arith) (omega arith) (omega arith),
       ))
 
   put-filled : (low : ℕ) (Q : S → Type 0) (x : Node S) (i : ℕ) (o : Up S) → Filled m low Q x → i < length (x .children) → UpIs Q Q o
@@ -113,7 +113,7 @@ put-passes m fresh p f x i d (split l e r) h k b b′ u =
     let put-two = sum-splice f i (l ∷ r ∷ []) (x .children) d b in
     either-le (suc (length (x .own))) (mostEntries m)
     (λ room. rw (eq-eqb, length-ins, le-leb) (omega arith))
-    (λ full. rw (eq-eqb k h u, length-ins, lt-leb, u) (omega (arith, cut-passes p f (fresh h) (suc m) (grown x i l e r))))
+    (λ full. rw (eq-eqb k h u, length-ins, lt-leb, u) (omega (arith, cut-passes p f (fresh h) (kept m) (grown x i l e r))))
 
 -- ---- trees
 

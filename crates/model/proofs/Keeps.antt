@@ -6,23 +6,23 @@ use mathlib.Core.Option.{some}
 use mathlib.Core.List.{List}
 use Prim.Native.Nat.{ℕ, _≤_}
 use native.Mathlib.Omega.{arith}
-use Rattle.model.specs.PoolCalls.{reads, poolClear}
-use Rattle.model.specs.Call.{Call, number}
-use Rattle.model.specs.Sound.{Sound}
-use Rattle.model.specs.Refusal.{Test, mapKind, setKind}
-use Rattle.model.specs.MapCalls.{mapInsert, noRoom, mapRemove, mapReplace, crowded}
-use Rattle.model.proofs.Right.{sound-right, Right, right-made, right-shut}
-use Rattle.model.specs.Pool.{Pool, poolOf, cursorOf, gapBy, heldBy}
-use Rattle.model.proofs.Calls.{file-right, next-right, open-right, prev-right, remove-next-right, strike-right, write-next-right, write-prev-right, insert-after-right}
-use Rattle.model.specs.Head.{headed, kindWord, openWord}
 use lib.Dec.{eqb}
 use borrow.Author.Tests.{not-false, eqb-true, eqb-false, eq-eqb}
-use Rattle.model.specs.Entries.{shut, keyFits, has}
-use Rattle.model.proofs.Head.{head-facts}
-use Rattle.model.specs.CursorCalls.{cursorClose, cursorInsertAfter, cursorNext, cursorOpenLower, cursorOpenUpper, cursorPrev, cursorRemoveNext, cursorWriteNext, cursorWritePrev}
-use Rattle.model.specs.SetCalls.{setInsert, setRemove}
-use Rattle.model.proofs.Cases.{either}
+use Rattle.model.specs.Head.{headed, kindWord, openWord}
 use Rattle.model.specs.Bound.{beforeLower, beforeUpper, boundOf}
+use Rattle.model.specs.Entries.{shut, keyFits, has}
+use Rattle.model.specs.Pool.{Pool, poolOf, cursorOf, gapBy, heldBy}
+use Rattle.model.specs.Sound.{Sound}
+use Rattle.model.specs.Refusal.{Test, mapKind, setKind}
+use Rattle.model.specs.Call.{Call, number}
+use Rattle.model.specs.PoolCalls.{reads, poolClear}
+use Rattle.model.specs.MapCalls.{mapInsert, noRoom, mapRemove, mapReplace, crowded}
+use Rattle.model.specs.SetCalls.{setInsert, setRemove}
+use Rattle.model.specs.CursorCalls.{cursorClose, cursorInsertAfter, cursorNext, cursorOpenLower, cursorOpenUpper, cursorPrev, cursorRemoveNext, cursorWriteNext, cursorWritePrev}
+use Rattle.model.proofs.Cases.{either}
+use Rattle.model.proofs.Head.{head-facts}
+use Rattle.model.proofs.Right.{sound-right, Right, right-made, right-shut}
+use Rattle.model.proofs.Calls.{file-right, next-right, open-right, prev-right, remove-next-right, strike-right, write-next-right, write-prev-right, insert-after-right}
 
 abbrev pub Keeps : {A : Type 0} → Call A → Type 0
 Keeps c = (w : List ℕ) → Sound w → number c w ≡ 0 → Right (c .after (poolOf w))

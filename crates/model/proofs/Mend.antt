@@ -15,9 +15,9 @@ use Rattle.model.specs.Insert.{cutLeft, cutRight}
 use Rattle.model.specs.Mend.{Plan, keep, move, join, fromRight, repair, plan, glue, nodeAt, count, pair, mend, spare}
 use Rattle.model.proofs.Cases.{either-le, either-lt}
 use Rattle.model.proofs.Lists.{split-two, all-append, all-last, all-first, all-around}
+use Rattle.model.proofs.Sums.{sum-append}
 use Rattle.model.proofs.Weave.{weave-cut, weave-under, weave-join}
 use Rattle.model.proofs.Cut.{cut-holds, cut-passes, cut-left-filled, cut-right-filled}
-use Rattle.model.proofs.Sums.{sum-append}
 
 -- ---- two pages glued with the entry between them
 

@@ -11,8 +11,8 @@ use Rattle.model.specs.Lists.{sum, sumTo, same}
 use Rattle.model.specs.Layout.{mostPages, mostLevels, least, mostEntries}
 use Rattle.model.specs.Tree.{Tree, Whole, entries, size, times, Shaped, held, Formed, pagesBelow, pagesOf}
 use Rattle.model.proofs.Cases.{either-le, either-lt, same-self}
-use Rattle.model.proofs.Gap.{size-suc}
 use Rattle.model.proofs.Sums.{sumTo-none, sum-const, sum-times, sumTo-plus, sum-le, sumTo-same}
+use Rattle.model.proofs.Gap.{size-suc}
 
 -- ---- the pages of a tree
 

@@ -13,8 +13,8 @@ use Rattle.model.specs.Tree.{Node, Tree, noEntry, noNode, noTree, weave,
 use Rattle.model.specs.Gap.{slot, rest, slotAt, restAt, child, childAt}
 use Rattle.model.specs.Mend.{Plan, keep, move, join, mend}
 use Rattle.model.specs.Remove.{lost, planAt, step, removeAt}
-use Rattle.model.proofs.Gap.{child-shaped, leaf-entries, size-some}
 use Rattle.model.proofs.Lists.{final-append, final-other}
+use Rattle.model.proofs.Gap.{child-shaped, leaf-entries, size-some}
 
 -- ---- the end of a page, over a function `f` that says what a child holds
 

@@ -16,8 +16,8 @@ use Rattle.model.specs.Gap.{slotAt, child}
 use Rattle.model.specs.Insert.{Up, whole, split, fit, grown, put}
 use Rattle.model.proofs.Cases.{either-le, same-self}
 use Rattle.model.proofs.Lists.{length-tab, map-take, map-drop, getD-map}
-use Rattle.model.proofs.Gap.{slot-le}
 use Rattle.model.proofs.Sums.{sum-append}
+use Rattle.model.proofs.Gap.{slot-le}
 
 -- ---- any map of children
 

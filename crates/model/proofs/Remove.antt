@@ -14,10 +14,10 @@ use Rattle.model.specs.Gap.{slotAt, restAt, child, childAt}
 use Rattle.model.specs.Remove.{gone, lost, planAt, step, stepFreed, removeAt, freedAt, collapse, collapseFreed, removeIn, freedIn, remove, freed}
 use Rattle.model.proofs.Cases.{either-le}
 use Rattle.model.proofs.Lists.{all-take, all-drop, all-at, all-map}
+use Rattle.model.proofs.Sums.{sum-append, sum-set}
 use Rattle.model.proofs.Gap.{way-down, child-shaped, leaf-holds, size-some}
 use Rattle.model.proofs.Gone.{Some, gone-length, gone-at, weave-gone}
 use Rattle.model.proofs.Mend.{filled-loosen, Able, plan-able, mend-holds, mend-passes, mend-filled}
-use Rattle.model.proofs.Sums.{sum-append, sum-set}
 
 -- ---- a page with no entry has one child, and holds what that holds
 

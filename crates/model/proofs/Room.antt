@@ -11,10 +11,10 @@ use borrow.Author.Tests.{eq-eqb, ne-eqb}
 use Rattle.model.specs.Tree.{Tree, Whole, noTree, size, Shaped, held, Formed, pagesBelow, pagesOf}
 use Rattle.model.specs.Gap.{slotAt, restAt, childAt}
 use Rattle.model.specs.Insert.{run, needed}
-use Rattle.model.proofs.Gap.{size-suc, way-down, child-shaped}
-use Rattle.model.proofs.Numbers.{entries-least}
 use Rattle.model.proofs.Sums.{sum-times, sum-le-at}
+use Rattle.model.proofs.Gap.{size-suc, way-down, child-shaped}
 use Rattle.model.proofs.Insert.{either-onward, run-le}
+use Rattle.model.proofs.Numbers.{entries-least}
 
 -- ---- the entries of a page above a run
 

@@ -17,8 +17,8 @@ use Rattle.model.specs.Entries.{has, lookup, gapOf, gapBefore}
 use Rattle.model.specs.Gap.{slot, rest, slotAt, restAt, child, childAt, gapPages, gapSlots, depth, seekPages, seekSlots, at, find}
 use Rattle.model.proofs.Cases.{either, either-lt, either-eq}
 use Rattle.model.proofs.Lists.{all-at, all-map}
-use Rattle.model.proofs.Weave.{left, right, weave-at}
 use Rattle.model.proofs.Entries.{Falls, falls-below, rising-left, rising-right, rising-lo, all-under, all-above, gap-le, gap-unique, gap-past, gap-within, lookup-past, lookup-within, has-lookup, has-key, at-true}
+use Rattle.model.proofs.Weave.{left, right, weave-at}
 
 -- ---- one page, over a function `f` that says what a child holds
 

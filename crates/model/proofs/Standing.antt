@@ -10,9 +10,9 @@ use Rattle.model.specs.Lists.{All, sum}
 use Rattle.model.specs.Layout.{mostEntries}
 use Rattle.model.specs.Tree.{Tree, Shaped, Entry, times}
 use Rattle.model.specs.Page.{heightOf, entriesOf, childrenOf, readTree, Heights}
+use Rattle.model.proofs.Cases.{same-self}
 use Rattle.model.proofs.Lists.{all-map, all-image, all-any, all-both}
 use Rattle.model.proofs.Read.{length-children, length-own}
-use Rattle.model.proofs.Cases.{same-self}
 
 -- ---- a tree that stands in pages
 

@@ -13,9 +13,9 @@ use Rattle.model.specs.Gap.{slotAt, restAt, childAt}
 use Rattle.model.specs.Write.{writeAt, write}
 use Rattle.model.proofs.Cases.{either-lt}
 use Rattle.model.proofs.Lists.{splice-one, all-set, set-inside, set-seam}
+use Rattle.model.proofs.Sums.{sum-set-same}
 use Rattle.model.proofs.Weave.{left, right, weave-hole, weave-at, weave-one}
 use Rattle.model.proofs.Gap.{Located, way-down, child-shaped}
-use Rattle.model.proofs.Sums.{sum-set-same}
 
 -- ---- one page
 

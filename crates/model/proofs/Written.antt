@@ -2,29 +2,29 @@
 -- are so, and words that are so are sound and hold that pool: what a call that stores has to show.
 -- Assumes nothing.
 use mathlib.Core.Path.{_≡_, sym, ap, _∙_, refl}
+use mathlib.Core.Bool.{cond, true}
 use mathlib.Core.List.{List, [], _∷_}
 use Prim.Native.Nat.{ℕ, zero, suc, pred, _≤_, _<_}
 use native.Mathlib.Omega.{arith}
+use lib.Dec.{eqb}
 use lib.ListN.{length, getD}
 use borrow.Author.Tests.{eq-eqb, ne-eqb}
 use Rattle.model.specs.Lists.{tab}
 use Rattle.model.specs.Layout.{least, word, firstWord, pagesIn, headWords}
 use Rattle.model.specs.Head.{countWord, rootWord, levelsWord, openWord, afterWord, keyWord}
+use Rattle.model.specs.PageMap.{bitAt, mapOf}
 use Rattle.model.specs.Tree.{Entry, noEntry, held, Rising, Formed, Tree, meets, entries, times, Shaped, size}
 use Rattle.model.specs.Page.{pageOf}
 use Rattle.model.specs.Entries.{Cursor, shut, gap, gapAfter, has}
 use Rattle.model.specs.Pool.{Pool, heldBy, wholeOf, cursorOf, poolOf, gapIn}
 use Rattle.model.specs.Sound.{Sound}
 use Rattle.model.proofs.Cases.{either-eq, either-lt, same-self}
-use Rattle.model.proofs.Entries.{has-key, gap-after-has, gap-after-entry, has-entry}
+use Rattle.model.proofs.Lists.{getD-tab}
 use Rattle.model.proofs.Head.{HeadFacts, head-facts, head-fits}
+use Rattle.model.proofs.Entries.{has-key, gap-after-has, gap-after-entry, has-entry}
+use Rattle.model.proofs.Gap.{size-some}
 use Rattle.model.proofs.Standing.{Standing, rootOf, read-root, read-standing, standing-read, standing-heights}
 use Rattle.model.proofs.Right.{Right, right-full, right-pages, right-levels}
-use mathlib.Core.Bool.{cond, true}
-use Rattle.model.proofs.Lists.{getD-tab}
-use Rattle.model.specs.PageMap.{bitAt, mapOf}
-use lib.Dec.{eqb}
-use Rattle.model.proofs.Gap.{size-some}
 
 -- ---- the head's words, by what the pool holds
 

@@ -2,9 +2,11 @@
 -- It is proved by computation in proofs/Bench.
 -- Assumes nothing: these are definitions.
 use mathlib.Core.Path.{_≡_}
+use mathlib.Core.Bool.{true, false}
 use mathlib.Core.Option.{none}
 use mathlib.Core.List.{List, [], _∷_, map}
 use Prim.Native.Nat.{ℕ}
+use Rattle.model.specs.Layout.{allowed, pagesIn, firstWord}
 use Rattle.model.specs.Tree.{Entry, Tree, Whole}
 use Rattle.model.specs.Entries.{gap}
 use Rattle.model.specs.Pool.{Pool, heldBy, freeOf, made, withCursor}
@@ -84,3 +86,11 @@ pub record Table : Type 0 where
   pub m : without8 .whole ≡ twoLevels (upper 2 (5 ∷ []) (leaf 0 (1 ∷ 2 ∷ 3 ∷ 4 ∷ []) ∷ leaf 1 (6 ∷ 7 ∷ 9 ∷ 10 ∷ []) ∷ []))
   pub n : without1 .whole ≡ oneLevel (leaf 0 (2 ∷ 3 ∷ 4 ∷ 5 ∷ 6 ∷ 7 ∷ 9 ∷ 10 ∷ []))
   pub n-free : freeOf without1 ≡ 1 ∷ 2 ∷ []
+
+-- "The pool": 128 words is the smallest, 8,192 words give P = 253; lengths 0, 96, 127 and 129 are refused, and so is P = 4,097
+pub record Lengths : Type 0 where
+  pub smallest : allowed 128 ≡ true
+  pub usual : allowed 8192 ≡ true
+  pub usual-pages : pagesIn 8192 ≡ 253
+  pub largest : allowed (firstWord 4096) ≡ true
+  pub refused : map allowed (0 ∷ 96 ∷ 127 ∷ 129 ∷ firstWord 4097 ∷ []) ≡ false ∷ false ∷ false ∷ false ∷ false ∷ []

@@ -2,13 +2,14 @@
 -- On any words: its refusals by length, head and arguments, exactly then; whatever the refusal, no word changed. On a sound pool: its answer and the pool after.
 -- Assumes nothing: these are definitions.
 use mathlib.Core.Path.{_≡_}
+use mathlib.Core.Bool.{Bool, true}
 use mathlib.Core.Logic.{_⊎_}
 use mathlib.Core.List.{List, _++_}
 use Prim.Native.Nat.{ℕ, zero, suc}
 use lib.ListN.{length}
 use Rattle.model.specs.Pool.{Pool, poolOf}
 use Rattle.model.specs.Sound.{Sound}
-use Rattle.model.specs.Refusal.{Test, refusal}
+use Rattle.model.specs.Refusal.{Test, refusal, names}
 
 pub record Call (A : Type 0) : Type 0 where
   -- refusals 1 to 5, on any words
@@ -17,6 +18,8 @@ pub record Call (A : Type 0) : Type 0 where
   pub late : Pool → List Test
   pub answer : Pool → A
   pub after : Pool → Pool
+  -- an absent key, an end of the list, a call that only reads: nothing changes, no word at all
+  pub still : Pool → Bool
 
 -- what a caller is given
 pub data Outcome (A : Type 0) : Type 0 where
@@ -42,9 +45,10 @@ module _ {A : Type 0} (c : Call A) where
     pub long : length v ≡ length w
     -- on any words
     pub early : (n : ℕ) → refusal (c .early w) ≡ suc n → r ≡ refused (suc n)
-    pub late : (n : ℕ) → refusal (c .early w) ≡ 0 → r ≡ refused n → (n ≡ 9) ⊎ ((n ≡ 6) ⊎ (n ≡ 7))
+    pub late : (n : ℕ) → refusal (c .early w) ≡ 0 → r ≡ refused n → (n ≡ 9) ⊎ (names n (c .late (poolOf w)) ≡ true)
     pub kept : (n : ℕ) → r ≡ refused n → v ≡ w
     -- on a sound pool
     pub sound : Sound w → Sound v
     pub exact : Sound w → r ≡ given (number w) (c .answer (poolOf w))
     pub holds : Sound w → poolOf v ≡ left (number w) (poolOf w) (c .after (poolOf w))
+    pub still : Sound w → c .still (poolOf w) ≡ true → v ≡ w

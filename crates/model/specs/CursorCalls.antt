@@ -1,7 +1,7 @@
 -- Document 01, "The calls", cursor, on a map: open at lower bound, open at upper bound, next, prev, peek next, peek prev, write next, write prev,
 -- insert after, remove next, close. The gap is a place number; both ends of the list have the answer `none`, and nothing changes.
 -- Assumes nothing: these are definitions.
-use mathlib.Core.Bool.{not}
+use mathlib.Core.Bool.{not, Bool, false, true}
 use mathlib.Core.Option.{Option, none, some}
 use mathlib.Core.List.{List, [], _∷_}
 use Prim.Native.Nat.{ℕ, pred}
@@ -30,6 +30,11 @@ nextOf p = next (gapBy p) (heldBy p)
 abbrev pub prevOf : Pool → Option Entry
 prevOf p = prev (gapBy p) (heldBy p)
 
+-- whether there is none
+abbrev pub missing : Option Entry → Bool
+missing none = true
+missing (some e) = false
+
 -- the value v in the place of that of entry g, where there is one
 abbrev pub rewrite : Option Entry → ℕ → ℕ → Pool → Pool
 rewrite none g v p = p
@@ -53,6 +58,7 @@ cursorOpenLower kind k = record {
   late = λ p. [];
   answer = λ p. lowerRead (boundOf kind k) (p .whole .levels);
   after = λ p. withCursor p (gap (gapOf (beforeLower (boundOf kind k)) (heldBy p)));
+  still = λ p. false;
 }
 
 abbrev pub cursorOpenUpper : ℕ → ℕ → Call ℕ
@@ -61,6 +67,7 @@ cursorOpenUpper kind k = record {
   late = λ p. [];
   answer = λ p. p .whole .levels;
   after = λ p. withCursor p (gap (gapOf (beforeUpper (boundOf kind k)) (heldBy p)));
+  still = λ p. false;
 }
 
 abbrev pub cursorNext : Call (Option Entry)
@@ -69,6 +76,7 @@ cursorNext = record {
   late = λ p. [];
   answer = nextOf;
   after = λ p. withCursor p (gap (forth (nextOf p) (gapBy p)));
+  still = λ p. missing (nextOf p);
 }
 
 abbrev pub cursorPrev : Call (Option Entry)
@@ -77,6 +85,7 @@ cursorPrev = record {
   late = λ p. [];
   answer = prevOf;
   after = λ p. withCursor p (gap (back (prevOf p) (gapBy p)));
+  still = λ p. missing (prevOf p);
 }
 
 abbrev pub cursorPeekNext : Call (Option Entry)
@@ -91,6 +100,7 @@ cursorWriteNext v = record {
   late = λ p. [];
   answer = λ p. valueOf (nextOf p);
   after = λ p. rewrite (nextOf p) (gapBy p) v p;
+  still = λ p. missing (nextOf p);
 }
 
 abbrev pub cursorWritePrev : ℕ → Call (Option ℕ)
@@ -99,6 +109,7 @@ cursorWritePrev v = record {
   late = λ p. [];
   answer = λ p. valueOf (prevOf p);
   after = λ p. rewrite (prevOf p) (pred (gapBy p)) v p;
+  still = λ p. missing (prevOf p);
 }
 
 abbrev pub cursorInsertAfter : ℕ → ℕ → Call (Unit {0})
@@ -107,10 +118,17 @@ cursorInsertAfter k v = record {
   late = λ p. 6 when not (keyFits k (gapBy p) (heldBy p)) ∷ 7 when crowded (gapBy p) p ∷ [];
   answer = λ p. tt;
   after = λ p. putAt (gapBy p) (entry k v) p;
+  still = λ p. false;
 }
 
 abbrev pub cursorRemoveNext : Call (Option Entry)
-cursorRemoveNext = record { early = cursorTests; late = λ p. []; answer = nextOf; after = λ p. strikeNext (nextOf p) p }
+cursorRemoveNext = record {
+  early = cursorTests;
+  late = λ p. [];
+  answer = nextOf;
+  after = λ p. strikeNext (nextOf p) p;
+  still = λ p. missing (nextOf p);
+}
 
 abbrev pub cursorClose : Call (Unit {0})
-cursorClose = record { early = cursorTests; late = λ p. []; answer = λ p. tt; after = λ p. withCursor p shut }
+cursorClose = record { early = cursorTests; late = λ p. []; answer = λ p. tt; after = λ p. withCursor p shut; still = λ p. false }

@@ -16,6 +16,10 @@ pub data Up (S : Type 0) : Type 0 where
   whole : S → Up S
   split : S → Entry → S → Up S
 
+-- of ten, five
+abbrev pub kept : ℕ → ℕ
+kept m = suc m
+
 module _ {S : Type 0} where
   -- a page cut at entry n: what stands before it, and what stands after it, on page q
   abbrev pub cutLeft : ℕ → Node S → Node S
@@ -24,11 +28,11 @@ module _ {S : Type 0} where
   abbrev pub cutRight : ℕ → ℕ → Node S → Node S
   cutRight q n x = record { page = q; own = drop (suc n) (x .own); children = drop (suc n) (x .children) }
 
-  -- a page that would hold one too many keeps the first m + 1, sends the next one up, and gives the last m to page q
+  -- a page that would hold one too many keeps the first so many, sends the next one up, and gives the last m to page q
   unfoldable pub fit : (m q : ℕ) → Node S → Up (Node S)
   fit m q x =
       cond (leb (length (x .own)) (mostEntries m)) (whole x)
-      (split (cutLeft (suc m) x) (getD (x .own) (suc m) noEntry) (cutRight q (suc m) x))
+      (split (cutLeft (kept m) x) (getD (x .own) (kept m) noEntry) (cutRight q (kept m) x))
 
   -- a page with an entry more at slot i, and two children for the one that stood there
   abbrev pub grown : Node S → ℕ → S → Entry → S → Node S

@@ -1,7 +1,7 @@
 -- Document 01, "The calls", map: insert, get, contains, replace, remove, list entries, keys or values.
 -- The set's calls are the same ones on entries with value 0 (SetCalls).
 -- Assumes nothing: these are definitions.
-use mathlib.Core.Bool.{Bool, cond, false, _||_}
+use mathlib.Core.Bool.{Bool, cond, false, _||_, not}
 use mathlib.Core.Option.{Option}
 use mathlib.Core.List.{List, [], _∷_, _++_}
 use Prim.Native.Nat.{ℕ}
@@ -72,6 +72,7 @@ mapInsert k v = record {
   late = λ p. 7 when noRoom k p ∷ [];
   answer = λ p. lookup k (heldBy p);
   after = file (entry k v);
+  still = λ p. false;
 }
 
 abbrev pub mapGet : ℕ → Call Found
@@ -86,10 +87,17 @@ mapReplace k v = record {
   late = λ p. [];
   answer = λ p. lookup k (heldBy p);
   after = λ p. cond (has k (heldBy p)) (file (entry k v) p) p;
+  still = λ p. not (has k (heldBy p));
 }
 
 abbrev pub mapRemove : ℕ → Call (Option ℕ)
-mapRemove k = record { early = changeTests mapKind; late = λ p. []; answer = λ p. lookup k (heldBy p); after = strike k }
+mapRemove k = record {
+  early = changeTests mapKind;
+  late = λ p. [];
+  answer = λ p. lookup k (heldBy p);
+  after = strike k;
+  still = λ p. not (has k (heldBy p));
+}
 
 -- list: the lesser of the entries between the bounds and the shortest slice is written to the slices' fronts, and nothing past them
 abbrev pub listed : Bound → Bound → ℕ → Pool → List Entry

@@ -1,28 +1,36 @@
 -- Document 01, "The calls": make, clear, count, is-empty, copy, check.
--- Check never refuses and says yes exactly for a `Sound` pool, so it needs no definition of its own.
+-- Make and copy work on any words and are exact on them; check says yes exactly for a sound pool.
 -- Assumes nothing: these are definitions.
-use mathlib.Core.Bool.{Bool, not, _&&_}
+use mathlib.Core.Path.{_≡_}
+use mathlib.Core.Bool.{Bool, not, _&&_, false, true}
 use mathlib.Core.List.{List, [], _∷_, _++_}
 use Prim.Native.Nat.{ℕ}
 use lib.Dec.{leb, eqb}
 use lib.ListN.{length, take, drop}
-use Rattle.model.specs.Layout.{allowed}
+use Rattle.model.specs.Layout.{allowed, pagesIn}
 use Rattle.model.specs.Head.{openWord, headed}
-use Rattle.model.specs.Pool.{Pool, heldBy, made}
-use Rattle.model.specs.Refusal.{Test, _when_, unfit, opened}
-use Rattle.model.specs.Call.{Call}
+use Rattle.model.specs.Pool.{Pool, heldBy, made, poolOf}
+use Rattle.model.specs.Sound.{Sound}
+use Rattle.model.specs.Refusal.{Test, _when_, unfit, opened, refusal}
+use Rattle.model.specs.Call.{Call, Outcome, given, refused, answered}
 
--- make works on any words; the pool after is `made P kind`
+-- make works on any words
 abbrev pub makeTests : List ℕ → ℕ → List Test
 makeTests w kind = 1 when not (allowed (length w)) ∷ 2 when leb 2 kind ∷ []
 
+pub record Makes (kind : ℕ) (w v : List ℕ) (r : Outcome (Unit {0})) : Type 0 where
+  pub long : length v ≡ length w
+  pub exact : r ≡ given (refusal (makeTests w kind)) tt
+  pub kept : (n : ℕ) → r ≡ refused n → v ≡ w
+  pub makes : r ≡ answered tt → Sound v × (poolOf v ≡ made (pagesIn (length w)) kind)
+
 -- clear keeps the kind
 abbrev pub poolClear : Call (Unit {0})
-poolClear = record { early = λ w. unfit w ∷ opened w ∷ []; late = λ p. []; answer = λ p. tt; after = λ p. made (p .pages) (p .kind) }
+poolClear = record { early = λ w. unfit w ∷ opened w ∷ []; late = λ p. []; answer = λ p. tt; after = λ p. made (p .pages) (p .kind); still = λ p. false }
 
 -- what a call that only reads leaves
 abbrev pub reads : {A : Type 0} → (List ℕ → List Test) → (Pool → A) → Call A
-reads tests answer = record { early = tests; late = λ p. []; answer = answer; after = λ p. p }
+reads tests answer = record { early = tests; late = λ p. []; answer = answer; after = λ p. p; still = λ p. true }
 
 abbrev pub poolCount : Call ℕ
 poolCount = reads (λ w. unfit w ∷ []) (λ p. length (heldBy p))
@@ -41,3 +49,13 @@ copyTests w v =
 -- every word of the source but words 5 to 7, which become 0
 unfoldable pub copied : List ℕ → List ℕ
 copied w = take 5 w ++ (0 ∷ 0 ∷ 0 ∷ drop 8 w)
+
+pub record Copies (source destination after : List ℕ) (r : Outcome (Unit {0})) : Type 0 where
+  pub exact : r ≡ given (refusal (copyTests source destination)) tt
+  pub kept : (n : ℕ) → r ≡ refused n → after ≡ destination
+  pub copies : r ≡ answered tt → after ≡ copied source
+
+-- check follows children with one level less at each step, so it ends on any words
+pub record Checks (w : List ℕ) (r : Bool) : Type 0 where
+  pub yes-sound : r ≡ true → Sound w
+  pub sound-yes : Sound w → r ≡ true

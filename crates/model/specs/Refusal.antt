@@ -1,7 +1,7 @@
 -- Document 01, "Numbers a caller can be given": the order 1, 2, 3, 8, 4, 5, 9, 6, 7, said once, and the tests that need only lengths, head and arguments.
 -- 9 has no test: it is never given on a sound pool, and never owed.
 -- Assumes nothing: these are definitions.
-use mathlib.Core.Bool.{Bool, false, not, cond}
+use mathlib.Core.Bool.{Bool, true, false, not, cond}
 use mathlib.Core.List.{List, [], _∷_}
 use Prim.Native.Nat.{ℕ}
 use lib.Dec.{leb, eqb}
@@ -10,10 +10,10 @@ use Rattle.model.specs.Head.{openWord, kindWord, headed}
 infix 80 _when_
 pub record Test : Type 0 where
   pub number : ℕ
-  pub fails : Bool
+  pub holds : Bool
 
 abbrev pub _when_ : ℕ → Bool → Test
-n when b = record { number = n; fails = b }
+n when b = record { number = n; holds = b }
 
 abbrev pub order : List ℕ
 order = 1 ∷ 2 ∷ 3 ∷ 8 ∷ 4 ∷ 5 ∷ 9 ∷ 6 ∷ 7 ∷ []
@@ -21,7 +21,12 @@ order = 1 ∷ 2 ∷ 3 ∷ 8 ∷ 4 ∷ 5 ∷ 9 ∷ 6 ∷ 7 ∷ []
 -- the test of that number, if there is one
 abbrev pub applies : ℕ → List Test → Bool
 applies n [] = false
-applies n (t ∷ ts) = cond (eqb (t .number) n) (t .fails) (applies n ts)
+applies n (t ∷ ts) = cond (eqb (t .number) n) (t .holds) (applies n ts)
+
+-- whether there is one
+abbrev pub names : ℕ → List Test → Bool
+names n [] = false
+names n (t ∷ ts) = cond (eqb (t .number) n) true (names n ts)
 
 abbrev pub firstOf : List ℕ → List Test → ℕ
 firstOf [] ts = 0

@@ -20,6 +20,7 @@ setInsert k = record {
   late = λ p. 7 when noRoom k p ∷ [];
   answer = λ p. not (has k (heldBy p));
   after = file (entry k 0);
+  still = λ p. has k (heldBy p);
 }
 
 -- the key itself
@@ -30,4 +31,10 @@ abbrev pub setContains : ℕ → Call Seen
 setContains k = reads (readTests setKind) (λ p. record { present = has k (heldBy p); read = pagesRead k p })
 
 abbrev pub setRemove : ℕ → Call Bool
-setRemove k = record { early = changeTests setKind; late = λ p. []; answer = λ p. has k (heldBy p); after = strike k }
+setRemove k = record {
+  early = changeTests setKind;
+  late = λ p. [];
+  answer = λ p. has k (heldBy p);
+  after = strike k;
+  still = λ p. not (has k (heldBy p));
+}
