@@ -1,7 +1,7 @@
 -- What each changing call leaves, of a pool that is right: the entries are the list model's, and the pool stays right where the call is not refused.
 -- Assumes nothing.
-use mathlib.Core.Path.{_≡_, subst, refl}
-use mathlib.Core.Bool.{true, false, Bool}
+use mathlib.Core.Path.{_≡_, subst, refl, _∙_}
+use mathlib.Core.Bool.{true, false, Bool, cond}
 use mathlib.Core.List.{List}
 use Prim.Native.Nat.{ℕ, zero, _<_, suc, pred}
 use native.Mathlib.Omega.{arith}
@@ -9,7 +9,7 @@ use lib.Dec.{ltb}
 use lib.ListN.{length}
 use Rattle.model.specs.Layout.{least}
 use Rattle.model.specs.Tree.{Entry, noEntry}
-use Rattle.model.specs.Entries.{has, filed, removed, shut, gapBefore, keyFits, gap, back, forth, gapOf}
+use Rattle.model.specs.Entries.{has, filed, removed, shut, gapBefore, keyFits, gap, back, forth, gapOf, replaced}
 use Rattle.model.specs.Write.{write}
 use Rattle.model.specs.Pool.{Pool, heldBy, gapBy, withWhole, freshOf, withCursor}
 use Rattle.model.specs.MapCalls.{file, strike, noRoom, entry, crowded, putAt}
@@ -35,6 +35,10 @@ module _ (p : Pool) (r : Right p) where
       either (has (e .key) (heldBy p))
       (λ y. rw y (write-held least (p .whole) (gapBefore (e .key) (heldBy p)) e (r .formed) (here (e .key) y .0)))
       (λ n. rw n (insert-held least (freshOf p) (p .whole) (gapBefore (e .key) (heldBy p)) e (r .formed) (gap-le (λ x. ltb x (e .key)) (heldBy p))))
+
+  pub replace-held : (e : Entry) → heldBy (cond (has (e .key) (heldBy p)) (file e p) p) ≡ replaced e (heldBy p)
+  unfolding replaced filed
+  replace-held e = either (has (e .key) (heldBy p)) (λ y. rw y (file-held e ∙ rw y)) (λ n. rw n)
 
   pub strike-held : (k : ℕ) → heldBy (strike k p) ≡ removed k (heldBy p)
   unfolding strike removed

@@ -22,7 +22,7 @@ unfoldable pub lookup : ℕ → List Entry → Option ℕ
 lookup k [] = none
 lookup k (e ∷ es) = cond (eqb (e .key) k) (some (e .value)) (lookup k es)
 
--- the gap in front of which stand the entries that come `before`
+-- the gap after the leading entries that come `before`
 unfoldable pub gapOf : (ℕ → Bool) → List Entry → ℕ
 gapOf before [] = 0
 gapOf before (e ∷ es) = cond (before (e .key)) (suc (gapOf before es)) 0

@@ -25,6 +25,7 @@ pub mod Call
 pub mod PoolCalls
 pub mod MapCalls
 pub mod SetCalls
+pub mod ListCalls
 pub mod CursorCalls
 -- "Bench cases"
 pub mod Bench

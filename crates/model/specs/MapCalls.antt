@@ -1,22 +1,20 @@
--- Document 01, "The calls", map: insert, get, contains, replace, remove, list entries, keys or values.
+-- Document 01, "The calls", map: insert, get, contains, replace, remove. (Its lists: ListCalls.)
 -- The set's calls are the same ones on entries with value 0 (SetCalls).
 -- Assumes nothing: these are definitions.
-use mathlib.Core.Bool.{Bool, cond, false, _||_, not}
+use mathlib.Core.Bool.{Bool, cond, false, not}
 use mathlib.Core.Option.{Option}
-use mathlib.Core.List.{List, [], _∷_, _++_}
+use mathlib.Core.List.{List, [], _∷_}
 use Prim.Native.Nat.{ℕ}
 use lib.Dec.{ltb}
-use lib.ListN.{length, take, drop}
 use Rattle.model.specs.Layout.{least}
 use Rattle.model.specs.Tree.{Entry}
-use Rattle.model.specs.Bound.{Bound}
-use Rattle.model.specs.Entries.{has, lookup, gapBefore, between}
+use Rattle.model.specs.Entries.{has, lookup, gapBefore}
 use Rattle.model.specs.Gap.{Found, depth}
 use Rattle.model.specs.Insert.{insert, needed}
 use Rattle.model.specs.Remove.{remove}
 use Rattle.model.specs.Write.{write}
 use Rattle.model.specs.Pool.{Pool, heldBy, room, freshOf, withWhole}
-use Rattle.model.specs.Refusal.{Test, _when_, mapKind, unfit, otherKind, badBound, noBound, opened}
+use Rattle.model.specs.Refusal.{Test, _when_, mapKind, unfit, otherKind, opened}
 use Rattle.model.specs.Call.{Call}
 use Rattle.model.specs.PoolCalls.{reads}
 
@@ -25,15 +23,12 @@ use Rattle.model.specs.PoolCalls.{reads}
 abbrev pub entry : ℕ → ℕ → Entry
 entry k v = record { key = k; value = v }
 
--- refusals of a call that reads, that changes, that lists; `kind` is the kind that it is for
+-- refusals of a call that reads, and of one that changes; `kind` is the kind that it is for
 abbrev pub readTests : ℕ → List ℕ → List Test
 readTests kind w = unfit w ∷ otherKind kind w ∷ []
 
 abbrev pub changeTests : ℕ → List ℕ → List Test
 changeTests kind w = unfit w ∷ otherKind kind w ∷ opened w ∷ []
-
-abbrev pub listTests : ℕ → ℕ → ℕ → List ℕ → List Test
-listTests kind lower upper w = unfit w ∷ otherKind kind w ∷ badBound (noBound lower || noBound upper) ∷ []
 
 -- entry e put at gap g; and whether the pages it needs are more than are free
 abbrev pub putAt : ℕ → Entry → Pool → Pool
@@ -98,11 +93,3 @@ mapRemove k = record {
   after = strike k;
   still = λ p. not (has k (heldBy p));
 }
-
--- list: the lesser of the entries between the bounds and the shortest slice is written to the slices' fronts, and nothing past them
-abbrev pub listed : Bound → Bound → ℕ → Pool → List Entry
-listed low high shortest p = take shortest (between low high (heldBy p))
-
--- a slice with `front` written at its front
-abbrev pub written : List ℕ → List ℕ → List ℕ
-written front slice = front ++ drop (length front) slice

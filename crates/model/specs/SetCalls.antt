@@ -1,5 +1,4 @@
--- Document 01, "The calls", set: insert, get, contains, remove, list. A set is a map whose values are 0.
--- List is the map's list of keys, with refusals `listTests setKind`.
+-- Document 01, "The calls", set: insert, get, contains, remove. A set is a map whose values are 0. (Its list: ListCalls.)
 -- Assumes nothing: these are definitions.
 use mathlib.Core.Bool.{Bool, not, cond}
 use mathlib.Core.Option.{none, some}

@@ -63,13 +63,19 @@ fn push(pool: &mut [u64; 128], from: usize, slot: usize, word: u64)
     }
 }
 
-// Files a tick's place: false where the page is full, which is refusal 7.
+// Files a tick's place, over the one that it had: false where a new tick finds the page full, which is refusal 7.
 fn file(pool: &mut [u64; 128], tick: u64, place: u64) -> bool {
     let n = count(pool);
+    let slot = slot_of(pool, tick);
+    if slot < n {
+        if pool[KEYS + slot] == tick {
+            pool[VALUES + slot] = place;
+            return true;
+        }
+    }
     if 9 <= n {
         return false;
     }
-    let slot = slot_of(pool, tick);
     push(pool, KEYS, slot, tick);
     push(pool, VALUES, slot, place);
     pool[PAGE] = n as u64 + 1;
