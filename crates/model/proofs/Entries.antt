@@ -18,12 +18,7 @@ use Rattle.model.specs.Bound.{Bound, included, excluded, unbounded, befo
 use Rattle.model.specs.Entries.{has, lookup, gapOf, gapBefore, gapAfter, between, next, prev, above, under, keyFits}
 use Rattle.model.specs.Gap.{at}
 use Rattle.model.proofs.Cases.{either, either-lt, either-eq}
-use Rattle.model.proofs.Lists.{all-append, all-left, all-right, all-take, all-drop, all-at, all-map, all-of, next-some, next-none}
-
-both-true : (a b : Bool) → cond a (cond b true false) false ≡ true → (a ≡ true) × (b ≡ true)
-both-true true true h = (refl, refl)
-both-true true false h = (refl, h)
-both-true false b h = (h, cc)
+use Rattle.model.proofs.Lists.{all-append, all-left, all-right, all-take, all-drop, all-at, all-map, all-of, next-some, next-none, every-true}
 
 -- ---- tests that fall
 
@@ -246,11 +241,11 @@ fits-true k g es b f =
 pub true-fits : (k g : ℕ) (es : List Entry) → Rising es → g ≤ length es → keyFits k g es ≡ true → Fits k g es
 unfolding keyFits
 true-fits k g es r b h =
-    let p = both-true (above (prev g es) k) (under (next g es) k) h in
+    let p = every-true (above (prev g es) k ∷ under (next g es) k ∷ []) h in
     record {
       front = front g b (p .0);
       back = λ i l c.
-          let q = rw (next-some es g noEntry (omega arith)) at (p .1) in
+          let q = rw (next-some es g noEntry (omega arith)) at (p .1 .0) in
           let k<g : k < keyAt es g = omega (arith, ltb-true, leb-true) in
           either-lt g i (λ m. omega (arith, rising-at es r g i m c)) (λ m. let q : i ≡ g = omega arith in rw q k<g);
     }

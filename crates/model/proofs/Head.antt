@@ -11,7 +11,7 @@ use borrow.Author.Tests.{leb-true, le-leb, eqb-true, eqb-false, eq-eqb, ne-eqb, 
 use Rattle.model.specs.Lists.{tab, All, every}
 use Rattle.model.specs.Layout.{headWords, mostPages, mostLevels, least, mostEntries, firstWord, pagesIn, allowed, word, lengthTests}
 use Rattle.model.specs.Head.{countWord, rootWord, levelsWord, openWord, afterWord, kindWord, fits, headed, bothOrNeither, headTests}
-use Rattle.model.proofs.Lists.{all-append, all-right}
+use Rattle.model.proofs.Lists.{all-append, all-right, every-all, every-true}
 
 -- P, the number of pages, is `pagesIn (length w)`
 pub record HeadFacts (w : List ℕ) : Type 0 where
@@ -31,15 +31,6 @@ pub record HeadFacts (w : List ℕ) : Type 0 where
   pub spare : (i : ℕ) → 9 ≤ i → i < headWords → word w i ≡ 0
 
 -- ---- tests
-
-pub every-true : (bs : List Bool) → every bs ≡ true → All (λ b. b ≡ true) bs
-every-true [] e = tt
-every-true (true ∷ bs) e = (refl, every-true bs e)
-every-true (false ∷ bs) e = let z : _≡_ {A = ℕ} 0 1 = cc in absurd (omega arith)
-
-pub every-all : (bs : List Bool) → All (λ b. b ≡ true) bs → every bs ≡ true
-every-all [] a = refl
-every-all (b ∷ bs) a = rw (a .0) (every-all bs (a .1))
 
 every-append : (bs cs : List Bool) → every (bs ++ cs) ≡ cond (every bs) (every cs) false
 every-append [] cs = refl

@@ -1,8 +1,7 @@
--- No call leaves a pool that is not right: of a sound pool, and where the call is not refused, what it leaves is right again. One line a call.
+-- No call leaves a pool that is not right: of a sound pool, and where the call is not refused, what it leaves is right again. One line a call. (Make and clear: `right-made`; copy: Copy.)
 -- Assumes nothing.
 use mathlib.Core.Path.{_≡_, refl}
 use mathlib.Core.Bool.{Bool, true, false, not, cond}
-use mathlib.Core.Option.{some}
 use mathlib.Core.List.{List}
 use Prim.Native.Nat.{ℕ, _≤_}
 use native.Mathlib.Omega.{arith}
@@ -15,13 +14,13 @@ use Rattle.model.specs.Pool.{Pool, poolOf, cursorOf, gapBy, heldBy}
 use Rattle.model.specs.Sound.{Sound}
 use Rattle.model.specs.Refusal.{Test, mapKind, setKind}
 use Rattle.model.specs.Call.{Call, number}
-use Rattle.model.specs.PoolCalls.{reads, poolClear}
+use Rattle.model.specs.PoolCalls.{reads}
 use Rattle.model.specs.MapCalls.{mapInsert, noRoom, mapRemove, mapReplace, crowded}
 use Rattle.model.specs.SetCalls.{setInsert, setRemove}
 use Rattle.model.specs.CursorCalls.{cursorClose, cursorInsertAfter, cursorNext, cursorOpenLower, cursorOpenUpper, cursorPrev, cursorRemoveNext, cursorWriteNext, cursorWritePrev}
 use Rattle.model.proofs.Cases.{either}
 use Rattle.model.proofs.Head.{head-facts}
-use Rattle.model.proofs.Right.{sound-right, Right, right-made, right-shut}
+use Rattle.model.proofs.Right.{sound-right, Right, right-shut}
 use Rattle.model.proofs.Calls.{file-right, next-right, open-right, prev-right, remove-next-right, strike-right, write-next-right, write-prev-right, insert-after-right}
 
 abbrev pub Keeps : {A : Type 0} → Call A → Type 0
@@ -61,9 +60,6 @@ module _ (w : List ℕ) (s : Sound w) where
 
 pub keeps-reads : {A : Type 0} (tests : List ℕ → List Test) (answer : Pool → A) → Keeps (reads tests answer)
 keeps-reads tests answer w s e = sound-right w s
-
-pub keeps-clear : Keeps poolClear
-keeps-clear w s e = let r = sound-right w s in right-made (poolOf w .pages) (poolOf w .kind) (r .some) (r .most) (r .kind)
 
 pub keeps-map-insert : (k v : ℕ) → Keeps (mapInsert k v)
 keeps-map-insert k v w s e =

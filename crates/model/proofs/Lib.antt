@@ -32,6 +32,7 @@ pub mod Calls
 pub mod Keeps
 -- the words that hold a pool, and what two pools that hold the same share
 pub mod Written
+pub mod Copy
 pub mod Alike
 -- the bench cases
 pub mod Bench

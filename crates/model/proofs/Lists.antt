@@ -1,6 +1,7 @@
 -- Laws of lists, in general. Nothing here knows of trees.
 -- Assumes nothing.
 use mathlib.Core.Path.{_≡_, refl, sym, ap, _∙_}
+use mathlib.Core.Bool.{Bool, true, false}
 use mathlib.Core.Option.{none, some}
 use mathlib.Core.List.{List, [], _∷_, _++_, map, append-assoc}
 use Prim.Native.Nat.{ℕ, zero, suc, _+_, _≤_, _<_}
@@ -8,7 +9,7 @@ use native.Mathlib.Nat.{zero-add, suc-add}
 use native.Mathlib.Omega.{arith}
 use lib.ListN.{length, take, drop, getD, set, length-append, length-take, length-drop, getElem?}
 use lib.Seq.{take-append-le, drop-append-le, take-append-add, drop-append-add, split-at, drop-cons, set-split, set-append-left, set-append-seam}
-use Rattle.model.specs.Lists.{ins, splice, tab, All, final}
+use Rattle.model.specs.Lists.{ins, splice, tab, All, final, every}
 
 module _ {A : Type 0} where
   pub length-ins : (g : ℕ) (x : A) (l : List A) → g ≤ length l → length (ins g x l) ≡ suc (length l)
@@ -170,3 +171,14 @@ getD-tab (suc n) f (suc i) d h = getD-tab n (λ k. f (suc k)) i d (omega arith)
 pub all-image : {S U : Type 0} (f : S → U) (P : U → Type 0) (l : List S) → All (λ x. P (f x)) l → All P (map f l)
 all-image f P [] a = tt
 all-image f P (x ∷ l) a = (a .0, all-image f P l (a .1))
+
+-- ---- tests
+
+pub every-true : (bs : List Bool) → every bs ≡ true → All (λ b. b ≡ true) bs
+every-true [] e = tt
+every-true (true ∷ bs) e = (refl, every-true bs e)
+every-true (false ∷ bs) e = let z : _≡_ {A = ℕ} 0 1 = cc in absurd (omega arith)
+
+pub every-all : (bs : List Bool) → All (λ b. b ≡ true) bs → every bs ≡ true
+every-all [] a = refl
+every-all (b ∷ bs) a = rw (a .0) (every-all bs (a .1))

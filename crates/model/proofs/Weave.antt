@@ -2,7 +2,7 @@
 -- Assumes nothing.
 use mathlib.Core.Path.{_≡_, refl, sym, ap, ap₂, _∙_}
 use mathlib.Core.List.{List, [], _∷_, _++_, append-assoc, append-nil}
-use Prim.Native.Nat.{ℕ, suc, _+_, _≤_, _<_}
+use Prim.Native.Nat.{ℕ, suc, _+_, _<_}
 use native.Mathlib.Omega.{arith}
 use lib.ListN.{length, take, drop, getD, length-append, length-take, take-append-drop}
 use lib.Seq.{split-at}
@@ -88,7 +88,3 @@ module _ {S A : Type 0} (f : S → List A) where
       → f c ≡ f l ++ e ∷ f r → weave f (c ∷ ss) es ≡ weave f (l ∷ r ∷ ss) (e ∷ es)
   weave-join c l e r ss [] q = q
   weave-join c l e r ss (x ∷ es) q = rw (q, append-assoc)
-
-  -- what is true of all that a page holds is true of its own entries
-  pub weave-long : (ss : List S) (es : List A) → length ss ≡ suc (length es) → length es ≤ length (weave f ss es)
-  weave-long ss es h = omega (arith, length-weave ss es h)

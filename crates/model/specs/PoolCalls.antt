@@ -1,8 +1,8 @@
 -- Document 01, "The calls": make, clear, count, is-empty, copy, check.
--- Make and copy work on any words and are exact on them; check says yes exactly for a sound pool.
+-- Make, clear and copy are exact on any words, sound or not; check says yes exactly for a sound pool.
 -- Assumes nothing: these are definitions.
 use mathlib.Core.Path.{_≡_}
-use mathlib.Core.Bool.{Bool, not, _&&_, false, true}
+use mathlib.Core.Bool.{Bool, not, _&&_, true}
 use mathlib.Core.List.{List, [], _∷_, _++_}
 use Prim.Native.Nat.{ℕ}
 use lib.Dec.{leb, eqb}
@@ -14,19 +14,19 @@ use Rattle.model.specs.Sound.{Sound}
 use Rattle.model.specs.Refusal.{Test, _when_, unfit, opened, refusal}
 use Rattle.model.specs.Call.{Call, Outcome, given, refused, answered}
 
--- make works on any words
-abbrev pub makeTests : List ℕ → ℕ → List Test
-makeTests w kind = 1 when not (allowed (length w)) ∷ 2 when leb 2 kind ∷ []
+-- make takes any words; clear asks for a head that fits, and keeps its kind
+abbrev pub makeTests : ℕ → List ℕ → List Test
+makeTests kind w = 1 when not (allowed (length w)) ∷ 2 when leb 2 kind ∷ []
 
-pub record Makes (kind : ℕ) (w v : List ℕ) (r : Outcome (Unit {0})) : Type 0 where
+abbrev pub clearTests : List ℕ → List Test
+clearTests w = unfit w ∷ opened w ∷ []
+
+-- both leave a pool just made, whatever the words were
+pub record Makes (tests : List Test) (kind : ℕ) (w v : List ℕ) (r : Outcome (Unit {0})) : Type 0 where
   pub long : length v ≡ length w
-  pub exact : r ≡ given (refusal (makeTests w kind)) tt
+  pub exact : r ≡ given (refusal tests) tt
   pub kept : (n : ℕ) → r ≡ refused n → v ≡ w
   pub makes : r ≡ answered tt → Sound v × (poolOf v ≡ made (pagesIn (length w)) kind)
-
--- clear keeps the kind
-abbrev pub poolClear : Call (Unit {0})
-poolClear = record { early = λ w. unfit w ∷ opened w ∷ []; late = λ p. []; answer = λ p. tt; after = λ p. made (p .pages) (p .kind); still = λ p. false }
 
 -- what a call that only reads leaves
 abbrev pub reads : {A : Type 0} → (List ℕ → List Test) → (Pool → A) → Call A
