@@ -8,11 +8,11 @@ use native.Mathlib.Omega.{arith}
 use lib.Dec.{ltb}
 use lib.ListN.{length}
 use Rattle.model.specs.Layout.{least}
-use Rattle.model.specs.Tree.{Entry, noEntry}
+use Rattle.model.specs.Tree.{Entry, noEntry, entry}
 use Rattle.model.specs.Entries.{has, filed, removed, shut, gapBefore, keyFits, gap, back, forth, gapOf, replaced}
 use Rattle.model.specs.Write.{write}
 use Rattle.model.specs.Pool.{Pool, heldBy, gapBy, withWhole, freshOf, withCursor}
-use Rattle.model.specs.MapCalls.{file, strike, noRoom, entry, crowded, putAt}
+use Rattle.model.specs.MapCalls.{file, strike, noRoom, crowded, putAt}
 use Rattle.model.specs.CursorCalls.{rewrite, nextOf, prevOf, strikeNext}
 use Rattle.model.proofs.Cases.{either, either-lt}
 use Rattle.model.proofs.Lists.{next-some, next-none}

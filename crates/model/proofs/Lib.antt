@@ -16,7 +16,6 @@ pub mod Cut
 pub mod Insert
 pub mod Gone
 pub mod Mend
-pub mod Moves
 pub mod Remove
 pub mod Path
 pub mod Write

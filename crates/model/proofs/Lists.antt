@@ -1,15 +1,15 @@
 -- Laws of lists, in general. Nothing here knows of trees.
 -- Assumes nothing.
-use mathlib.Core.Path.{_≡_, refl, sym, ap, _∙_}
+use mathlib.Core.Path.{_≡_, refl, sym, ap, _∙_, ap₂}
 use mathlib.Core.Bool.{Bool, true, false}
 use mathlib.Core.Option.{none, some}
-use mathlib.Core.List.{List, [], _∷_, _++_, map, append-assoc}
+use mathlib.Core.List.{List, [], _∷_, _++_, map, append-assoc, map-append}
 use Prim.Native.Nat.{ℕ, zero, suc, _+_, _≤_, _<_}
 use native.Mathlib.Nat.{zero-add, suc-add}
 use native.Mathlib.Omega.{arith}
-use lib.ListN.{length, take, drop, getD, set, length-append, length-take, length-drop, getElem?}
-use lib.Seq.{take-append-le, drop-append-le, take-append-add, drop-append-add, split-at, drop-cons, set-split, set-append-left, set-append-seam}
-use Rattle.model.specs.Lists.{ins, splice, tab, All, final, every}
+use lib.ListN.{length, take, drop, getD, set, length-append, length-take, length-drop, getElem?, List·getD-append}
+use lib.Seq.{take-append-le, drop-append-le, take-append-add, drop-append-add, split-at, drop-cons, set-split, set-append-left, set-append-seam, length-take-le, getD-at, getD-take}
+use Rattle.model.specs.Lists.{ins, splice, tab, All, final, every, del}
 
 module _ {A : Type 0} where
   pub length-ins : (g : ℕ) (x : A) (l : List A) → g ≤ length l → length (ins g x l) ≡ suc (length l)
@@ -18,6 +18,21 @@ module _ {A : Type 0} where
   pub length-tab : (n : ℕ) (f : ℕ → A) → length (tab n f) ≡ n
   length-tab zero f = refl
   length-tab (suc n) f = ap suc (length-tab n (λ k. f (suc k)))
+
+  -- what stands at each place of a list with one more
+  pub ins-before : (g : ℕ) (x : A) (l : List A) (i : ℕ) (d : A) → i < g → g ≤ length l → getD (ins g x l) i d ≡ getD l i d
+  ins-before g x l i d h b =
+      let long : length (take g l) ≡ g = length-take-le g l b in
+      List·getD-append (take g l) (x ∷ drop g l) d i (omega arith) ∙ getD-take g l i d h
+
+  pub ins-here : (g : ℕ) (x : A) (l : List A) (d : A) → g ≤ length l → getD (ins g x l) g d ≡ x
+  ins-here g x l d b = getD-at (take g l) x (drop g l) d g (length-take-le g l b)
+
+  pub ins-after : (g : ℕ) (x : A) (l : List A) (i : ℕ) (d : A) → g ≤ i → g ≤ length l → getD (ins g x l) (suc i) d ≡ getD l i d
+  ins-after zero x l i d h b = refl
+  ins-after (suc g) x [] i d h b = absurd (omega arith)
+  ins-after (suc g) x (y ∷ l) zero d h b = absurd (omega arith)
+  ins-after (suc g) x (y ∷ l) (suc i) d h b = ins-after g x l i d (omega arith) (omega arith)
 
   -- a gap inside the middle part
   pub ins-inside : (l c r : List A) (g : ℕ) (x : A) → g ≤ length c → ins (length l + g) x (l ++ (c ++ r)) ≡ l ++ (ins g x c ++ r)
@@ -162,10 +177,30 @@ module _ {S U : Type 0} (f : S → U) where
   getD-map (x ∷ xs) zero d e h = refl
   getD-map (x ∷ xs) (suc i) d e h = getD-map xs i d e (omega arith)
 
+  pub map-tab : (n : ℕ) (g : ℕ → S) → map f (tab n g) ≡ tab n (λ i. f (g i))
+  map-tab zero g = refl
+  map-tab (suc n) g = ap (λ (r : List U). f (g zero) ∷ r) (map-tab n (λ i. g (suc i)))
+
+  pub map-ins : (i : ℕ) (x : S) (l : List S) → map f (ins i x l) ≡ ins i (f x) (map f l)
+  map-ins i x l = simp (map-append, map-take, map-drop)
+
+  pub map-del : (i : ℕ) (l : List S) → map f (del i l) ≡ del i (map f l)
+  map-del i l = simp (map-append, map-take, map-drop)
+
 pub getD-tab : {A : Type 0} (n : ℕ) (f : ℕ → A) (i : ℕ) (d : A) → i < n → getD (tab n f) i d ≡ f i
 getD-tab zero f i d h = absurd (omega arith)
 getD-tab (suc n) f zero d h = refl
 getD-tab (suc n) f (suc i) d h = getD-tab n (λ k. f (suc k)) i d (omega arith)
+
+module _ {A : Type 0} where
+  pub take-tab : (n m : ℕ) (f : ℕ → A) → n ≤ m → take n (tab m f) ≡ tab n f
+  take-tab zero m f h = refl
+  take-tab (suc n) zero f h = absurd (omega arith)
+  take-tab (suc n) (suc m) f h = ap (λ (r : List A). f 0 ∷ r) (take-tab n m (λ k. f (suc k)) (omega arith))
+
+  pub tab-ext : (n : ℕ) (f g : ℕ → A) → ((i : ℕ) → f i ≡ g i) → tab n f ≡ tab n g
+  tab-ext zero f g h = refl
+  tab-ext (suc n) f g h = ap₂ (λ (x : A) (r : List A). x ∷ r) (h 0) (tab-ext n (λ k. f (suc k)) (λ k. g (suc k)) (λ i. h (suc i)))
 
 -- P of each image
 pub all-image : {S U : Type 0} (f : S → U) (P : U → Type 0) (l : List S) → All (λ x. P (f x)) l → All P (map f l)

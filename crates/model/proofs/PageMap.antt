@@ -1,4 +1,4 @@
--- Sums of numbers by place, the bits of the page map, and the free pages: they are inside the pool, free, distinct, and lowest first.
+-- The bits of the page map, and the free pages: they are inside the pool, free, distinct, and lowest first; once some are taken the rest is left.
 -- Assumes nothing.
 use mathlib.Core.Path.{_≡_, refl, sym, ap, ap₂, _∙_}
 use mathlib.Core.List.{List, _∷_}
@@ -6,14 +6,14 @@ use Prim.Native.Nat.{ℕ, zero, suc, _+_, _*_, _/_, _%_, _^_, _≤_, _<_}
 use native.Mathlib.Nat.{div-one, zero-div, pow-suc, add-zero}
 use native.Mathlib.Numerals.{one-add}
 use native.Mathlib.Omega.{arith}
-use lib.ListN.{length, getD, List·getD-eq-default}
+use lib.ListN.{length, drop, getD, List·getD-eq-default}
 use lib.Pow.{shr-shr}
 use lib.Seq.{ext-getD}
 use borrow.Author.Tests.{eq-eqb, ne-eqb}
 use Rattle.model.specs.Lists.{sumTo, same, All}
 use Rattle.model.specs.Layout.{Words}
 use Rattle.model.specs.PageMap.{bit, bitAt, freeFrom, freePages}
-use Rattle.model.proofs.Cases.{either-eq, same-other}
+use Rattle.model.proofs.Cases.{either-eq, same-self, same-other}
 use Rattle.model.proofs.Lists.{all-at, all-map}
 use Rattle.model.proofs.Sums.{sumTo-ext, sumTo-none, sumTo-once, sumTo-front}
 
@@ -157,3 +157,35 @@ module _ (taken : ℕ → ℕ) (P : ℕ) where
   pub fresh-inside : (k p : ℕ) → k ≤ length (freePages taken P) → P ≤ p → taken p ≡ 0
       → taken p + sumTo (λ i. same p (getD (freePages taken P) i 0)) k ≡ 0
   fresh-inside k p h past z = omega (arith, free-never k p h (λ z. past))
+
+-- ---- the free pages once the first k of them are taken: those behind
+
+-- taken, or among the first k of `l`
+abbrev takenAfter : (ℕ → ℕ) → List ℕ → ℕ → ℕ → ℕ
+takenAfter taken l k q = taken q + sumTo (λ i. same q (getD l i 0)) k
+
+after-cons : (taken : ℕ → ℕ) (p : ℕ) (l : List ℕ) (k q : ℕ) → takenAfter taken (p ∷ l) (suc k) q ≡ takenAfter taken l k q + same q p
+after-cons taken p l k q = omega (arith, sumTo-front (λ i. same q (getD (p ∷ l) i 0)) k)
+
+from-after : (taken : ℕ → ℕ) (n p k : ℕ) → k ≤ length (freeFrom taken p n)
+    → freeFrom (takenAfter taken (freeFrom taken p n) k) p n ≡ drop k (freeFrom taken p n)
+unfolding freeFrom sumTo
+from-after taken zero p zero h = refl
+from-after taken zero p (suc k) h = absurd (omega arith)
+from-after taken (suc n) p zero h = from-same (takenAfter taken (freeFrom taken p (suc n)) 0) taken (suc n) p (λ q l m. add-zero (taken q))
+from-after taken (suc n) p (suc k) h =
+    let rest = freeFrom taken (suc p) n in
+    let ih : (j : ℕ) → j ≤ length rest → freeFrom (takenAfter taken rest j) (suc p) n ≡ drop j rest = from-after taken n (suc p) in
+    either-eq (taken p) 0
+    (λ e. let b : suc k ≤ suc (length rest) = rw (eq-eqb (taken p) 0 e) at h in
+    rw (eq-eqb (taken p) 0 e, ne-eqb (takenAfter taken (p ∷ rest) (suc k) p) 0 (omega (arith, after-cons taken p rest k p, same-self p)))
+    (from-same (takenAfter taken (p ∷ rest) (suc k)) (takenAfter taken rest k) n (suc p)
+    (λ q l m. omega (arith, after-cons taken p rest k q, same-other q p (omega arith)))
+    ∙ ih k (omega arith)))
+    (λ ne. let b : suc k ≤ length rest = rw (ne-eqb (taken p) 0 ne) at h in
+    rw (ne-eqb (taken p) 0 ne, ne-eqb (takenAfter taken rest (suc k) p) 0 (omega arith)) (ih (suc k) b))
+
+pub free-after : (taken : ℕ → ℕ) (P k : ℕ) → k ≤ length (freePages taken P)
+    → freePages (λ q. taken q + sumTo (λ i. same q (getD (freePages taken P) i 0)) k) P ≡ drop k (freePages taken P)
+unfolding freePages
+free-after taken P = from-after taken P 0

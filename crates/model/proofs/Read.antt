@@ -65,7 +65,7 @@ numberAt m pages p i = getD (childrenOf (mostEntries m) (pages p)) i 0
 
 module _ (m : ℕ) (pages : ℕ → List ℕ) (h p : ℕ) where
   -- as its page has it, with trees for the children's numbers
-  pub read-node : readTree m pages (suc h) p ≡ mapNode (readTree m pages h) (nodeOf (mostEntries m) pages p)
+  pub read-node : readTree m pages (suc h) p ≡ mapNode (readTree m pages h) (nodeOf (mostEntries m) p (pages p))
   unfolding readTree
   read-node = refl
 
@@ -153,8 +153,8 @@ module _ (m : ℕ) (pages pages′ : ℕ → List ℕ) where
 
 -- the pages hold what is handed up
 abbrev pub Stored : ℕ → (ℕ → List ℕ) → Up (Node ℕ) → Type 0
-Stored m pages (whole x) = nodeOf (mostEntries m) pages (x .page) ≡ x
-Stored m pages (split l e r) = (nodeOf (mostEntries m) pages (l .page) ≡ l) × (nodeOf (mostEntries m) pages (r .page) ≡ r)
+Stored m pages (whole x) = nodeOf (mostEntries m) (x .page) (pages (x .page)) ≡ x
+Stored m pages (split l e r) = (nodeOf (mostEntries m) (l .page) (pages (l .page)) ≡ l) × (nodeOf (mostEntries m) (r .page) (pages (r .page)) ≡ r)
 
 -- what is handed up, by page numbers
 abbrev pub numbers : Up (Node ℕ) → Up ℕ

@@ -13,14 +13,14 @@ use Rattle.model.specs.Lists.{All, del, ins}
 use Rattle.model.specs.Layout.{least, mostLevels, mostPages, mostEntries}
 use Rattle.model.specs.Head.{openWord, afterWord, keyWord}
 use Rattle.model.specs.PageMap.{mapOf}
-use Rattle.model.specs.Tree.{meets, pagesOf, times, Formed, Rising, Shaped, held, entries, Entry}
+use Rattle.model.specs.Tree.{meets, pagesOf, times, Formed, Rising, Shaped, held, entries, Entry, entry}
 use Rattle.model.specs.Entries.{shut, gap, keyFits}
 use Rattle.model.specs.Insert.{needed}
 use Rattle.model.specs.Remove.{remove}
 use Rattle.model.specs.Write.{write}
 use Rattle.model.specs.Pool.{Pool, poolOf, cursorOf, freeOf, withCursor, heldBy, room, gapBy, withWhole, made, freshOf, wholeOf}
 use Rattle.model.specs.Sound.{Sound}
-use Rattle.model.specs.MapCalls.{crowded, putAt, entry}
+use Rattle.model.specs.MapCalls.{crowded, putAt}
 use Rattle.model.proofs.Cases.{either-eq}
 use Rattle.model.proofs.Lists.{all-append, all-take, all-drop, all-set, length-ins}
 use Rattle.model.proofs.PageMap.{bitAt-lt, free-count, fresh-once, fresh-inside}

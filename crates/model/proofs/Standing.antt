@@ -9,10 +9,10 @@ use lib.ListN.{length, length-map}
 use Rattle.model.specs.Lists.{All, sum}
 use Rattle.model.specs.Layout.{mostEntries}
 use Rattle.model.specs.Tree.{Tree, Shaped, Entry, times}
-use Rattle.model.specs.Page.{heightOf, entriesOf, childrenOf, readTree, Heights}
+use Rattle.model.specs.Page.{childrenOf, readTree, Heights, Holds}
 use Rattle.model.proofs.Cases.{same-self}
 use Rattle.model.proofs.Lists.{all-map, all-image, all-any, all-both}
-use Rattle.model.proofs.Read.{length-children, length-own}
+use Rattle.model.proofs.Read.{length-children, length-own, mapNode}
 
 -- ---- a tree that stands in pages
 
@@ -22,11 +22,9 @@ rootOf zero t = 0
 rootOf (suc h) t = suc (t .page)
 
 module _ (m : ℕ) (pages : ℕ → List ℕ) where
-  -- what the words of the root's page say; a leaf's child words may be anything
-  pub record Stands (h : ℕ) (t : Tree (suc h)) : Type 0 where
-    pub height : heightOf (pages (t .page)) ≡ h
-    pub own : entriesOf (mostEntries m) (pages (t .page)) ≡ t .own
-    pub children : 0 < h → childrenOf (mostEntries m) (pages (t .page)) ≡ map (λ c. pred (rootOf h c)) (t .children)
+  -- what the words of the root's page say
+  abbrev pub Stands : (h : ℕ) → Tree (suc h) → Type 0
+  Stands h t = Holds (mostEntries m) h (mapNode (λ c. pred (rootOf h c)) t) (pages (t .page))
 
   -- so of each page of the tree
   unfoldable pub Standing : (h : ℕ) → Tree h → Type 0

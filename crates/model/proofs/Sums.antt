@@ -8,7 +8,7 @@ use native.Mathlib.Omega.{arith}
 use lib.ListN.{length, take, drop, getD, set, take-append-drop}
 use lib.Seq.{split-at, set-split}
 use Rattle.model.specs.Lists.{splice, sum, sumTo, same, All}
-use Rattle.model.proofs.Cases.{either-eq, same-eq, same-other, same-le}
+use Rattle.model.proofs.Cases.{either-eq, same-eq, same-other, same-le, either-lt}
 
 -- ---- over a list
 
@@ -106,3 +106,25 @@ sumTo-same q zero h = absurd (omega arith)
 sumTo-same q (suc n) h =
     let ih : q < n → sumTo (λ p. same p q) n ≡ 1 = sumTo-same q n in
     either-eq n q (λ e. omega (arith, sumTo-apart q n (omega arith), same-eq n q e)) (λ d. omega (arith, ih (omega arith), same-other n q d))
+
+-- numbers that are 0 or 1 are not more than their places
+pub sumTo-le : (f : ℕ → ℕ) (n : ℕ) → ((i : ℕ) → f i ≤ 1) → sumTo f n ≤ n
+unfolding sumTo
+sumTo-le f zero h = omega arith
+sumTo-le f (suc n) h = omega (arith, sumTo-le f n h, h n)
+
+pub sumTo-mono : (f g : ℕ → ℕ) (n : ℕ) → ((i : ℕ) → f i ≤ g i) → sumTo f n ≤ sumTo g n
+unfolding sumTo
+sumTo-mono f g zero le = omega arith
+sumTo-mono f g (suc n) le = omega (arith, sumTo-mono f g n le, le n)
+
+-- terms that are at most others of the same sum are equal to them
+pub sumTo-tight : (f g : ℕ → ℕ) (n : ℕ) → ((i : ℕ) → f i ≤ g i) → sumTo f n ≡ sumTo g n → (i : ℕ) → i < n → f i ≡ g i
+unfolding sumTo
+sumTo-tight f g zero le e i h = absurd (omega arith)
+sumTo-tight f g (suc n) le e i h =
+    let here : f n ≤ g n = le n in
+    let rest : sumTo f n ≤ sumTo g n = sumTo-mono f g n le in
+    let last : f n ≡ g n = omega arith in
+    let before : i < n → f i ≡ g i = sumTo-tight f g n le (omega arith) i in
+    either-lt i n before (λ l. let at : i ≡ n = omega arith in rw at last)

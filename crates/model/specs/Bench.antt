@@ -7,12 +7,12 @@ use mathlib.Core.Option.{none}
 use mathlib.Core.List.{List, [], _∷_, map}
 use Prim.Native.Nat.{ℕ}
 use Rattle.model.specs.Layout.{allowed, pagesIn, firstWord}
-use Rattle.model.specs.Tree.{Entry, Tree, Whole}
+use Rattle.model.specs.Tree.{Entry, Tree, Whole, entry}
 use Rattle.model.specs.Entries.{gap}
 use Rattle.model.specs.Pool.{Pool, heldBy, freeOf, made, withCursor}
 use Rattle.model.specs.Refusal.{mapKind, refusal}
 use Rattle.model.specs.Call.{Call}
-use Rattle.model.specs.MapCalls.{entry, mapInsert, mapRemove}
+use Rattle.model.specs.MapCalls.{mapInsert, mapRemove}
 use Rattle.model.specs.CursorCalls.{cursorOpenLower, cursorOpenUpper, cursorNext, cursorInsertAfter}
 
 -- a key with value 0; a leaf; a page above leaves

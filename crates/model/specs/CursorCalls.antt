@@ -6,7 +6,7 @@ use mathlib.Core.Option.{Option, none, some}
 use mathlib.Core.List.{List, [], _∷_}
 use Prim.Native.Nat.{ℕ, pred}
 use Rattle.model.specs.Layout.{least}
-use Rattle.model.specs.Tree.{Entry}
+use Rattle.model.specs.Tree.{Entry, entry}
 use Rattle.model.specs.Bound.{Bound, included, excluded, unbounded, boundOf, beforeLower, beforeUpper}
 use Rattle.model.specs.Entries.{gapOf, shut, gap, next, prev, keyFits, forth, back, valueOf}
 use Rattle.model.specs.Remove.{remove}
@@ -15,7 +15,7 @@ use Rattle.model.specs.Pool.{Pool, heldBy, gapBy, withWhole, withCursor}
 use Rattle.model.specs.Refusal.{Test, _when_, mapKind, unfit, otherKind, badBound, noBound, opened, closed}
 use Rattle.model.specs.Call.{Call}
 use Rattle.model.specs.PoolCalls.{reads}
-use Rattle.model.specs.MapCalls.{entry, putAt, crowded}
+use Rattle.model.specs.MapCalls.{putAt, crowded}
 
 abbrev pub openTests : ℕ → List ℕ → List Test
 openTests kind w = unfit w ∷ otherKind mapKind w ∷ badBound (noBound kind) ∷ opened w ∷ []

@@ -7,7 +7,7 @@ use mathlib.Core.List.{List, [], _∷_}
 use Prim.Native.Nat.{ℕ}
 use lib.Dec.{ltb}
 use Rattle.model.specs.Layout.{least}
-use Rattle.model.specs.Tree.{Entry}
+use Rattle.model.specs.Tree.{Entry, entry}
 use Rattle.model.specs.Entries.{has, lookup, gapBefore}
 use Rattle.model.specs.Gap.{Found, depth}
 use Rattle.model.specs.Insert.{insert, needed}
@@ -19,9 +19,6 @@ use Rattle.model.specs.Call.{Call}
 use Rattle.model.specs.PoolCalls.{reads}
 
 -- ---- shared with the set
-
-abbrev pub entry : ℕ → ℕ → Entry
-entry k v = record { key = k; value = v }
 
 -- refusals of a call that reads, and of one that changes; `kind` is the kind that it is for
 abbrev pub readTests : ℕ → List ℕ → List Test

@@ -3,7 +3,7 @@
 -- Assumes nothing: these are definitions.
 use mathlib.Core.Path.{_≡_}
 use mathlib.Core.List.{List, map}
-use Prim.Native.Nat.{ℕ, zero, suc, _+_, _*_}
+use Prim.Native.Nat.{ℕ, zero, suc, _+_, _*_, _<_}
 use lib.ListN.{take, drop}
 use Rattle.model.specs.Lists.{tab, All}
 use Rattle.model.specs.Layout.{pageWords, mostEntries, firstWord, word}
@@ -42,8 +42,14 @@ unfoldable pub childrenOf : ℕ → List ℕ → List ℕ
 childrenOf most page = tab (suc (countOf page)) (childIn most page)
 
 -- page p as its words have it, children by number
-abbrev pub nodeOf : ℕ → (ℕ → List ℕ) → ℕ → Node ℕ
-nodeOf most pages p = record { page = p; own = entriesOf most (pages p); children = childrenOf most (pages p) }
+abbrev pub nodeOf : ℕ → ℕ → List ℕ → Node ℕ
+nodeOf most p page = record { page = p; own = entriesOf most page; children = childrenOf most page }
+
+-- a page of height h, with the entries of x and, above the leaves, its children; a leaf's child words may be anything
+pub record Holds (most h : ℕ) (x : Node ℕ) (page : List ℕ) : Type 0 where
+  pub height : heightOf page ≡ h
+  pub own : entriesOf most page ≡ x .own
+  pub children : 0 < h → childrenOf most page ≡ x .children
 
 -- the tree of h levels whose root is page p
 unfoldable pub readTree : ℕ → (ℕ → List ℕ) → (h : ℕ) → ℕ → Tree h

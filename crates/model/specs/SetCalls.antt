@@ -4,13 +4,14 @@ use mathlib.Core.Bool.{Bool, not, cond}
 use mathlib.Core.Option.{none, some}
 use mathlib.Core.List.{[], _∷_}
 use Prim.Native.Nat.{ℕ}
+use Rattle.model.specs.Tree.{entry}
 use Rattle.model.specs.Entries.{has}
 use Rattle.model.specs.Gap.{Found}
 use Rattle.model.specs.Pool.{heldBy}
 use Rattle.model.specs.Refusal.{_when_, setKind}
 use Rattle.model.specs.Call.{Call}
 use Rattle.model.specs.PoolCalls.{reads}
-use Rattle.model.specs.MapCalls.{entry, readTests, changeTests, file, noRoom, strike, pagesRead, Seen}
+use Rattle.model.specs.MapCalls.{readTests, changeTests, file, noRoom, strike, pagesRead, Seen}
 
 -- whether the key is new
 abbrev pub setInsert : ℕ → Call Bool

@@ -12,6 +12,9 @@ pub record Entry : Type 0 where
   pub key : ℕ
   pub value : ℕ
 
+abbrev pub entry : ℕ → ℕ → Entry
+entry k v = record { key = k; value = v }
+
 pub record Node (S : Type 0) : Type 0 where
   pub page : ℕ
   pub own : List Entry
@@ -23,7 +26,7 @@ Tree (suc h) = Node (Tree h)
 
 -- what stands for an entry, a page or a child that is not there
 abbrev pub noEntry : Entry
-noEntry = record { key = 0; value = 0 }
+noEntry = entry 0 0
 
 abbrev pub noNode : {S : Type 0} → Node S
 noNode = record { page = 0; own = []; children = [] }

@@ -1,0 +1,5 @@
+-- Laws that belong to no one function.
+pub mod Lent
+pub mod Nodes
+pub mod Copied
+pub mod Several

@@ -1,0 +1,2 @@
+-- What the tree's promises are said with.
+pub mod Pages
