@@ -1,8 +1,8 @@
 -- Cases on numbers, with no motive to write: the goal is proved from each of the two.
 -- And what is known of `same`, the 1 or 0 by which pages are counted.
 -- Assumes nothing.
-use mathlib.Core.Path.{_≡_, refl}
-use mathlib.Core.Bool.{Bool, true, false}
+use mathlib.Core.Path.{_≡_, refl, sym, _∙_}
+use mathlib.Core.Bool.{Bool, true, false, true≢false}
 use mathlib.Core.Logic.{_≢_}
 use Prim.Native.Nat.{ℕ, _≤_, _<_}
 use native.Mathlib.Omega.{arith}
@@ -39,6 +39,10 @@ module _ {ℓ} {C : Type ℓ} where
       go : (s : Bool) → t ≡ s → C
       go true e = yes-case e
       go false e = no-case e
+
+-- a test has one answer
+pub contrary : {C : Type 0} {b : Bool} → b ≡ true → b ≡ false → C
+contrary holds fails = absurd (true≢false (sym holds ∙ fails))
 
 pub same-self : (p : ℕ) → same p p ≡ 1
 unfolding same

@@ -1,12 +1,33 @@
-// The one place of the code that knows where a page starts; all else of this crate stands in specs/ and proofs/.
+// The numbers of the layout, as code has them, each in this one place; what they stand for is in specs/Layout.
 ghost use mathlib.Core.Path.{_≡_};
 ghost use Prim.Native.Nat.{_≤_};
 ghost use Rattle.model.specs.Layout.{mostPages, firstWord};
+
+// Words of the head and of the page map, and the map's first word.
+pub const HEAD_WORDS: usize = 32;
+
+pub const MAP_WORDS: usize = 64;
+
+// The first word of page 0, and the words of a page.
+pub const FIRST_PAGE: usize = 96;
+
+pub const PAGE_WORDS: usize = 32;
+
+pub const MOST_PAGES: usize = 4096;
+
+pub const MOST_LEVELS: usize = 6;
+
+// The most entries of a page, the fewest of a page that is not the root, and how many a page that splits keeps.
+pub const MOST: usize = 9;
+
+pub const LEAST: usize = 4;
+
+pub const KEPT: usize = 5;
 
 // The first word of page `p`; of page P, the length of a pool of P pages.
 pub fn first_word(p: usize) -> usize
     requires { ⌜ p ≤ mostPages ⌝ }
     ensures { λ r. ⌜ r ≡ firstWord p ⌝ }
 {
-    96 + 32 * p
+    FIRST_PAGE + PAGE_WORDS * p
 }

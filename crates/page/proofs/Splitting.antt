@@ -15,6 +15,7 @@ use Rattle.model.specs.Insert.{cutLeft}
 use Rattle.page.specs.declared.Parting.the-variants.{Up, Unsound}
 use Rattle.page.specs.Node.{wider}
 use Rattle.page.specs.Page.{Long, said, firsts, parted, Splits}
+use Rattle.model.proofs.Cases.{contrary}
 use Rattle.model.proofs.Lists.{length-tab, getD-tab, tab-ext, ins-before, take-tab, ins-here, ins-after}
 use Rattle.page.proofs.Lists.{take-ins}
 
@@ -85,7 +86,7 @@ module _ {most n : ℕ} {ok : Bool} {x : Node ℕ} {page : List ℕ} where
       → Splits most n ok x page page′ (Up k v)
   split-done full up h = record {
     answer = rw full (ap (parted true) up);
-    kept = λ not-full. let z : _≡_ {A = ℕ} 0 1 = cc in absurd (omega arith);
+    kept = contrary full;
     holds = λ _. h;
   }
 
@@ -93,5 +94,5 @@ module _ {most n : ℕ} {ok : Bool} {x : Node ℕ} {page : List ℕ} where
   split-refused not-full = record {
     answer = rw not-full;
     kept = λ _. refl;
-    holds = λ full. let z : _≡_ {A = ℕ} 0 1 = cc in absurd (omega arith);
+    holds = λ full. contrary full not-full;
   }

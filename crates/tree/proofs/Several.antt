@@ -2,7 +2,7 @@
 -- is as it was, so the callees' words are of the first pool's pages.
 -- Assumes nothing.
 use mathlib.Core.Path.{_≡_, refl, sym, _∙_}
-use mathlib.Core.Bool.{Bool, true, false, true≢false}
+use mathlib.Core.Bool.{Bool, true, false}
 use mathlib.Core.Logic.{_≢_}
 use mathlib.Core.List.{List, [], _∷_}
 use Prim.Native.Nat.{ℕ, suc, _+_, _-_, _≤_, _<_}
@@ -22,15 +22,12 @@ use Rattle.page.specs.declared.Parting.the-variants as parting
 use Rattle.page.specs.Node.{more, wider, less, instead}
 use Rattle.page.specs.Page.{roomAt, holdsAt, fullAt}
 use Rattle.tree.specs.Pages.{most, kept, OnlyPages, nodeIn, Left, ChangesIn, KeepsIn, canSplit, SplitsIn, areApart, canPass, PassesIn, MovesIn, canJoin, JoinsIn}
-use Rattle.model.proofs.Cases.{either, either-lt}
+use Rattle.model.proofs.Cases.{contrary, either, either-lt}
 use Rattle.model.proofs.Lists.{every-true}
 use Rattle.model.proofs.Read.{length-own, length-children}
 use Rattle.page.proofs.Pages.{room-facts, holds-facts}
 use Rattle.tree.proofs.Lent.{own-at, child-at, only-none, only-then, only-wider}
 use Rattle.tree.proofs.Nodes.{give-left, give-up, give-right, get-left, get-up, get-right}
-
-contrary : {C : Type 0} {b : Bool} → b ≡ true → b ≡ false → C
-contrary can cannot = absurd (true≢false (sym can ∙ cannot))
 
 -- ---- a split
 

@@ -7,6 +7,7 @@ ghost use mathlib.Core.List.{[], _∷_};
 ghost use Prim.Native.Nat.{suc, _+_, _-_, _≤_, _<_};
 ghost use lib.ListN.{length, getD};
 ghost use Rattle.model.specs.Lists.{ins, every};
+ghost use Rattle.model.specs.Layout.{pageWords};
 ghost use Rattle.model.specs.Tree.{entry, noEntry};
 ghost use Rattle.model.specs.Page.{pageOf, countOf, heightOf, entryIn, childIn, entriesOf, childrenOf, Holds};
 ghost use Rattle.model.specs.Insert.{cutRight};
@@ -14,27 +15,37 @@ ghost use Rattle.model.specs.Mend.{glue};
 ghost use Rattle.page.specs.Node.{alone, more, wider, less, instead};
 ghost use Rattle.page.specs.Page.{roomAt, holdsAt, fullAt, placeOf};
 ghost use Rattle.tree.specs.Pages.{most, kept, Inside, OnlyPages, nodeIn, Left, ChangesIn, KeepsIn, canSplit, SplitsIn, areApart, canPass, PassesIn, MovesIn, canGive, canGet, canJoin, JoinsIn};
+use model::FIRST_PAGE;
+use model::KEPT;
+use model::LEAST;
+use model::MOST;
+use model::PAGE_WORDS;
 use page::Change;
 use page::Entry;
 use page::Parting;
 use page::Place;
+
+// Of ten entries, the first that is given away, and the child after it.
+const GIVEN: usize = KEPT + 1;
+
+const BEHIND: usize = KEPT + 2;
 
 // ---- one page, read
 
 pub fn page_at(pool: &[u64], p: usize) -> &[u64]
     requires { ⌜ Inside p (now pool) ⌝ }
     ensures { λ r. ⌜ now r ≡ pageOf (now (pool .entry)) p ⌝ }
-    ensures { λ r. ⌜ length (now r) ≡ 32 ⌝ }
+    ensures { λ r. ⌜ length (now r) ≡ pageWords ⌝ }
 {
-    let a = 96 + 32 * p;
-    &pool[a..a + 32]
+    let a = FIRST_PAGE + PAGE_WORDS * p;
+    &pool[a..a + PAGE_WORDS]
 }
 
 pub fn find(pool: &[u64], p: usize, key: u64) -> Place
     requires { ⌜ Inside p (now pool) ⌝ }
     ensures { λ r. ⌜ r ≡ placeOf most (pageOf (now (pool .entry)) p) key ⌝ }
 {
-    page::find(page_at(pool, p), 9, key)
+    page::find(page_at(pool, p), MOST, key)
 }
 
 pub fn count(pool: &[u64], p: usize) -> usize
@@ -55,14 +66,14 @@ pub fn entry_at(pool: &[u64], p: usize, slot: usize) -> Entry
     requires { ⌜ Inside p (now pool) × (slot < most) ⌝ }
     ensures { λ r. ⌜ entry (r .key) (r .value) ≡ entryIn most (pageOf (now (pool .entry)) p) slot ⌝ }
 {
-    page::entry_at(page_at(pool, p), 9, slot)
+    page::entry_at(page_at(pool, p), MOST, slot)
 }
 
 pub fn child_at(pool: &[u64], p: usize, at: usize) -> u64
     requires { ⌜ Inside p (now pool) × (at ≤ most) ⌝ }
     ensures { λ r. ⌜ r ≡ childIn most (pageOf (now (pool .entry)) p) at ⌝ }
 {
-    page::child_at(page_at(pool, p), 9, at)
+    page::child_at(page_at(pool, p), MOST, at)
 }
 
 // ---- one page, changed
@@ -72,16 +83,24 @@ pub fn single(pool: &mut [u64], p: usize, height: u64, key: u64, value: u64, lef
     ensures { λ _. ⌜ Holds most height (alone (entry key value) left right) (pageOf (now (pool .exit)) p) ⌝ }
     ensures { λ _. ⌜ OnlyPages (p ∷ []) (now (pool .entry)) (now (pool .exit)) ⌝ }
 {
-    let a = 96 + 32 * p;
-    page::single(&mut pool[a..a + 32], 9, height, key, value, left, right);
+    let a = FIRST_PAGE + PAGE_WORDS * p;
+    page::single(
+        &mut pool[a..a + PAGE_WORDS],
+        MOST,
+        height,
+        key,
+        value,
+        left,
+        right,
+    );
 }
 
 pub fn set_entry(pool: &mut [u64], p: usize, slot: usize, key: u64, value: u64) -> Change
     requires { ⌜ Inside p (now pool) ⌝ }
     ensures { λ r. ⌜ ChangesIn p (holdsAt most (pageOf (now (pool .entry)) p) slot 0) (instead slot (entry key value) (nodeIn (now (pool .entry)) p)) (now (pool .entry)) (now (pool .exit)) r ⌝ }
 {
-    let a = 96 + 32 * p;
-    page::set_entry(&mut pool[a..a + 32], 9, slot, key, value)
+    let a = FIRST_PAGE + PAGE_WORDS * p;
+    page::set_entry(&mut pool[a..a + PAGE_WORDS], MOST, slot, key, value)
 }
 
 pub fn insert(
@@ -96,16 +115,24 @@ pub fn insert(
     requires { ⌜ Inside p (now pool) ⌝ }
     ensures { λ r. ⌜ ChangesIn p (roomAt most (pageOf (now (pool .entry)) p) slot at) (more slot (entry key value) at child (nodeIn (now (pool .entry)) p)) (now (pool .entry)) (now (pool .exit)) r ⌝ }
 {
-    let a = 96 + 32 * p;
-    page::insert(&mut pool[a..a + 32], 9, slot, key, value, at, child)
+    let a = FIRST_PAGE + PAGE_WORDS * p;
+    page::insert(
+        &mut pool[a..a + PAGE_WORDS],
+        MOST,
+        slot,
+        key,
+        value,
+        at,
+        child,
+    )
 }
 
 pub fn remove(pool: &mut [u64], p: usize, slot: usize, at: usize) -> Change
     requires { ⌜ Inside p (now pool) ⌝ }
     ensures { λ r. ⌜ ChangesIn p (holdsAt most (pageOf (now (pool .entry)) p) slot at) (less slot at (nodeIn (now (pool .entry)) p)) (now (pool .entry)) (now (pool .exit)) r ⌝ }
 {
-    let a = 96 + 32 * p;
-    page::remove(&mut pool[a..a + 32], 9, slot, at)
+    let a = FIRST_PAGE + PAGE_WORDS * p;
+    page::remove(&mut pool[a..a + PAGE_WORDS], MOST, slot, at)
 }
 
 // ---- a page that would hold ten
@@ -115,7 +142,7 @@ fn wider_entry(pool: &[u64], p: usize, slot: usize, key: u64, value: u64, i: usi
     requires { ⌜ Inside p (now pool) × (fullAt most (pageOf (now pool) p) slot ≡ true) × (i ≤ most) ⌝ }
     ensures { λ r. ⌜ entry (r .key) (r .value) ≡ getD (ins slot (entry key value) (entriesOf most (pageOf (now (pool .entry)) p))) i noEntry ⌝ }
 {
-    page::wider_entry(page_at(pool, p), 9, slot, key, value, i)
+    page::wider_entry(page_at(pool, p), MOST, slot, key, value, i)
 }
 
 // Child `i` of it.
@@ -123,7 +150,7 @@ fn wider_child(pool: &[u64], p: usize, slot: usize, child: u64, i: usize) -> u64
     requires { ⌜ Inside p (now pool) × (fullAt most (pageOf (now pool) p) slot ≡ true) × (i ≤ suc most) ⌝ }
     ensures { λ r. ⌜ r ≡ getD (ins (suc slot) child (childrenOf most (pageOf (now (pool .entry)) p))) i 0 ⌝ }
 {
-    page::wider_child(page_at(pool, p), 9, slot + 1, child, i)
+    page::wider_child(page_at(pool, p), MOST, slot + 1, child, i)
 }
 
 // Page `q` gets the last four of ten. Page `p` is full, and is left as it was.
@@ -134,14 +161,14 @@ fn give(pool: &mut [u64], p: usize, q: usize, slot: usize, key: u64, value: u64,
     ensures { λ _. ⌜ OnlyPages (q ∷ []) (now (pool .entry)) (now (pool .exit)) ⌝ }
 {
     let h = height(pool, p);
-    let first = wider_entry(pool, p, slot, key, value, 6);
-    let left = wider_child(pool, p, slot, child, 6);
-    let right = wider_child(pool, p, slot, child, 7);
+    let first = wider_entry(pool, p, slot, key, value, GIVEN);
+    let left = wider_child(pool, p, slot, child, GIVEN);
+    let right = wider_child(pool, p, slot, child, BEHIND);
     single(pool, q, h, first.key, first.value, left, right);
     let mut j = 1;
-    while j < 4 {
-        let e = wider_entry(pool, p, slot, key, value, 6 + j);
-        let c = wider_child(pool, p, slot, child, 7 + j);
+    while j < LEAST {
+        let e = wider_entry(pool, p, slot, key, value, GIVEN + j);
+        let c = wider_child(pool, p, slot, child, BEHIND + j);
         insert(pool, q, j, e.key, e.value, j + 1, c);
         j += 1;
     }
@@ -152,8 +179,16 @@ fn keep(pool: &mut [u64], p: usize, slot: usize, key: u64, value: u64, child: u6
     requires { ⌜ Inside p (now pool) ⌝ }
     ensures { λ r. ⌜ KeepsIn p (fullAt most (pageOf (now (pool .entry)) p) slot) (wider slot (entry key value) child (nodeIn (now (pool .entry)) p)) (now (pool .entry)) (now (pool .exit)) r ⌝ }
 {
-    let a = 96 + 32 * p;
-    page::split(&mut pool[a..a + 32], 9, 5, slot, key, value, child)
+    let a = FIRST_PAGE + PAGE_WORDS * p;
+    page::split(
+        &mut pool[a..a + PAGE_WORDS],
+        MOST,
+        KEPT,
+        slot,
+        key,
+        value,
+        child,
+    )
 }
 
 // A full page `p` with one entry more, and the child after it.
@@ -172,7 +207,7 @@ pub fn split(
     if p == q {
         return Parting::Unsound;
     }
-    if !page::is_full(page_at(pool, p), 9, slot) {
+    if !page::is_full(page_at(pool, p), MOST, slot) {
         return Parting::Unsound;
     }
     give(pool, p, q, slot, key, value, child);
@@ -212,13 +247,13 @@ fn can_pass(
     if !apart(u, from, to) {
         return false;
     }
-    if !page::holds(page_at(pool, u), 9, i, 0) {
+    if !page::holds(page_at(pool, u), MOST, i, 0) {
         return false;
     }
-    if !page::holds(page_at(pool, from), 9, fs, fa) {
+    if !page::holds(page_at(pool, from), MOST, fs, fa) {
         return false;
     }
-    page::has_room(page_at(pool, to), 9, ts, ta)
+    page::has_room(page_at(pool, to), MOST, ts, ta)
 }
 
 // The entry at slot `fs` of page `from` goes up to entry `i` of page `u`, and that one down before slot `ts` of page `to`; the child at `fa` goes along, to `ta`.
@@ -265,7 +300,7 @@ pub fn take_right(pool: &mut [u64], u: usize, i: usize, l: usize, r: usize) -> C
     ensures { λ a. ⌜ MovesIn u i l r (suc (countOf (pageOf (now (pool .entry)) l))) (canGet (now (pool .entry)) u i l r) (now (pool .entry)) (now (pool .exit)) a ⌝ }
 {
     let n = count(pool, l);
-    if 9 < n {
+    if MOST < n {
         return Change::Unsound;
     }
     pass(pool, u, i, r, 0, 0, l, n, n + 1)
@@ -279,7 +314,7 @@ fn can_join(pool: &[u64], u: usize, i: usize, l: usize, r: usize) -> bool
     if !apart(u, l, r) {
         return false;
     }
-    if !page::holds(page_at(pool, u), 9, i, i + 1) {
+    if !page::holds(page_at(pool, u), MOST, i, i + 1) {
         return false;
     }
     let n = count(pool, l);
@@ -290,10 +325,10 @@ fn can_join(pool: &[u64], u: usize, i: usize, l: usize, r: usize) -> bool
     if m == 0 {
         return false;
     }
-    if 9 <= n {
+    if MOST <= n {
         return false;
     }
-    m < 9 - n
+    m < MOST - n
 }
 
 // An entry, and then all of page `r`, at the end of page `l`.
