@@ -7,7 +7,7 @@ use native.Mathlib.Omega.{arith}
 use lib.ListN.{length, take, drop, getD, length-take, length-drop, List·getD-eq-default}
 use lib.Seq.{take-add, getD-take, getD-drop, ext-getD}
 use Rattle.model.specs.Lists.{sum, All}
-use Rattle.model.specs.Layout.{headWords, mapWords, least, mostEntries, word, Words}
+use Rattle.model.specs.Layout.{headWords, mapWords, least, word, Words}
 use Rattle.model.specs.PageMap.{mapOf}
 use Rattle.model.specs.Tree.{Tree, times, meets}
 use Rattle.model.specs.Page.{pageOf}
@@ -17,7 +17,6 @@ use Rattle.model.specs.Alike.{AlikePage, Alike}
 use Rattle.model.proofs.Cases.{either-eq, either-lt, same-other}
 use Rattle.model.proofs.Lists.{getD-tab}
 use Rattle.model.proofs.PageMap.{map-ext}
-use Rattle.model.proofs.Read.{length-own}
 use Rattle.model.proofs.Standing.{Standing, Stands}
 use Rattle.model.proofs.Written.{Written, sound-written}
 
@@ -26,10 +25,9 @@ use Rattle.model.proofs.Written.{Written, sound-written}
 module _ (pages pages′ : ℕ → List ℕ) (p : ℕ) where
   page-alike : (h : ℕ) (t : Tree (suc h)) → p ≡ t .page → Stands least pages h t → Stands least pages′ h t → AlikePage (pages p) (pages′ p)
   page-alike h t e a b = rw e (record {
-    count = sym (length-own (mostEntries least) (pages (t .page))) ∙ ap length (a .own ∙ sym (b .own)) ∙ length-own (mostEntries least) (pages′ (t .page));
     height = a .height ∙ sym (b .height);
-    entries = a .own ∙ sym (b .own);
-    children = λ l. let l′ : 0 < h = rw (a .height) at l in a .children l′ ∙ sym (b .children l′);
+    own = a .own ∙ sym (b .own);
+    children = λ l. let l′ : 0 < h = rw (b .height) at l in a .children l′ ∙ sym (b .children l′);
   })
 
   child-alike : (h : ℕ) → ((t : Tree h) → Standing least pages h t → Standing least pages′ h t → 0 < times p h t → AlikePage (pages p) (pages′ p))

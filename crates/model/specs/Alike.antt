@@ -3,17 +3,15 @@
 -- Assumes nothing: these are definitions.
 use mathlib.Core.Path.{_≡_}
 use mathlib.Core.List.{List}
-use Prim.Native.Nat.{ℕ, _<_}
+use Prim.Native.Nat.{ℕ}
 use lib.ListN.{length, take}
 use Rattle.model.specs.Layout.{least, mostEntries, firstWord}
 use Rattle.model.specs.PageMap.{mapOf, bitAt}
-use Rattle.model.specs.Page.{pageOf, countOf, heightOf, entriesOf, childrenOf}
+use Rattle.model.specs.Page.{pageOf, heightOf, Holds, nodeOf}
 
-pub record AlikePage (a b : List ℕ) : Type 0 where
-  pub count : countOf a ≡ countOf b
-  pub height : heightOf a ≡ heightOf b
-  pub entries : entriesOf (mostEntries least) a ≡ entriesOf (mostEntries least) b
-  pub children : 0 < heightOf a → childrenOf (mostEntries least) a ≡ childrenOf (mostEntries least) b
+-- the one holds what the other says
+abbrev pub AlikePage : List ℕ → List ℕ → Type 0
+AlikePage a b = Holds (mostEntries least) (heightOf b) (nodeOf (mostEntries least) 0 b) a
 
 pub record Alike (w v : List ℕ) : Type 0 where
   pub long : length w ≡ length v

@@ -24,10 +24,6 @@ module _ {A : Type 0} where
   pub part-at : (a n : ℕ) (xs : List A) (i : ℕ) (d : A) → i < n → getD (part a n xs) i d ≡ getD xs (a + i) d
   part-at a n xs i d h = getD-take n (drop a xs) i d h ∙ getD-drop a xs i d
 
-  -- a part of a part
-  pub part-part : (a m b n : ℕ) (xs : List A) → a + m ≤ n → part a m (part b n xs) ≡ part (b + a) m xs
-  part-part a m b n xs h = part-take a m n (drop b xs) h ∙ ap (take m) (drop-drop a b xs)
-
   same-drop : (e b : ℕ) (xs ys : List A) → drop e xs ≡ drop e ys → e ≤ b → drop b xs ≡ drop b ys
   same-drop e b xs ys p h =
       let s : b ≡ e + (b - e) = omega arith in

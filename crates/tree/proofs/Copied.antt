@@ -17,7 +17,7 @@ use Rattle.model.specs.Mend.{glue}
 use Rattle.page.specs.declared.Change.{Change}
 use Rattle.page.specs.Node.{alone, more, wider}
 use Rattle.page.specs.Page.{roomAt, fullAt}
-use Rattle.tree.specs.Pages.{most, kept, OnlyPages, nodeIn, Left, ChangesIn}
+use Rattle.tree.specs.Pages.{most, keeps, OnlyPages, nodeIn, Becomes, ChangesIn}
 use Rattle.model.proofs.Lists.{length-ins}
 use Rattle.model.proofs.Read.{length-own, length-children}
 use Rattle.page.proofs.Pages.{room-at, full-facts, holds-count, holds-more}
@@ -95,7 +95,7 @@ module _ (w : List ℕ) (l r n : ℕ) (many : countOf (pageOf w l) ≡ n + 1) wh
       ∙ sym (at-behind (childrenOf most (pageOf w l)) _ j (suc (n + 1 + j)) 0 (omega (arith, length-children most (pageOf w l)))) in
       rw step (copied-more (behind w l r) behind-forks (n + 1 + j) (n + 1 + j) (n + 2 + j) x c (omega (arith, behind-own)) (omega arith) room refl (omega arith) own child k d)
 
-  joining-all : {w₁ : List ℕ} (j : ℕ) → countOf (pageOf w r) ≤ j → Joining l r (n + 1 + j) w w₁ → Left l (behind w l r) w w₁
+  joining-all : {w₁ : List ℕ} (j : ℕ) → countOf (pageOf w r) ≤ j → Joining l r (n + 1 + j) w w₁ → Becomes l (behind w l r) w w₁
   joining-all j past k = copied-all (behind w l r) behind-forks (n + 1 + j) (omega (arith, behind-own)) k
 
 -- the entry e between them and page r's first child have been put behind page l: what the loop starts with, and what its end will be
@@ -105,7 +105,7 @@ pub record Begun (l r n m : ℕ) (e : Entry) (w w₁ : List ℕ) : Type 0 where
   pub many : countOf (pageOf w₁ l) ≡ n + 1
   pub rest : countOf (pageOf w₁ r) ≡ m
   pub end : (w₂ : List ℕ) (j : ℕ) → m ≤ j → Joining l r (n + 1 + j) w₁ w₂
-      → Left l (glue (nodeIn w l) e (nodeIn w r)) w w₂ × OnlyPages (l ∷ []) w w₂
+      → Becomes l (glue (nodeIn w l) e (nodeIn w r)) w w₂ × OnlyPages (l ∷ []) w w₂
 
 pub begins : (w : List ℕ) (l r n m : ℕ) (e : Entry) (c : ℕ) {w₁ : List ℕ} {a : Change} → l ≢ r → n ≡ countOf (pageOf w l) → m ≡ countOf (pageOf w r) → 1 ≤ n → n + m < most
     → c ≡ childIn most (pageOf w r) 0 → ChangesIn l (roomAt most (pageOf w l) n (n + 1)) (more n e (n + 1) c (nodeIn w l)) w w₁ a → Begun l r n m e w w₁
@@ -115,7 +115,7 @@ begins w l r n m e c {w₁} apart en em some few first d =
     let ds : List ℕ = childrenOf most (pageOf w r) in
     let own : length es ≡ n = length-own most (pageOf w l) ∙ sym en in
     let children : length cs ≡ n + 1 = length-children most (pageOf w l) ∙ omega arith in
-    let held : Left l (more n e (n + 1) c (nodeIn w l)) w w₁ = d .holds (room-at most (pageOf w l) n (n + 1) (omega arith) (omega arith) (omega arith) (omega arith)) in
+    let held : Becomes l (more n e (n + 1) c (nodeIn w l)) w w₁ = d .holds (room-at most (pageOf w l) n (n + 1) (omega arith) (omega arith) (omega arith) (omega arith)) in
     let count : countOf (pageOf w₁ l) ≡ n + 1 = holds-count held ∙ length-ins n e es (omega arith) ∙ omega arith in
     let same : pageOf w₁ r ≡ pageOf w r = d .only .others r ((λ q. apart (sym q)), tt) in
     let head : c ∷ drop 1 ds ≡ ds =
@@ -126,7 +126,7 @@ begins w l r n m e c {w₁} apart en em some few first d =
       many = count;
       rest = rw same (sym em);
       end = λ w₂ j past k.
-          let all : Left l (behind w₁ l r) w₁ w₂ = joining-all w₁ l r n count j (rw (same, ← em) past) k in (
+          let all : Becomes l (behind w₁ l r) w₁ w₂ = joining-all w₁ l r n count j (rw (same, ← em) past) k in (
             record {
               height = all .height ∙ held .height;
               own = all .own ∙ ap₂ _++_ (held .own) (ap (entriesOf most) same) ∙ ins-behind n e es (entriesOf most (pageOf w r)) own;
@@ -141,7 +141,7 @@ begins w l r n m e c {w₁} apart en em some few first d =
 -- ---- the last four of ten
 
 abbrev pub half : List ℕ → ℕ → ℕ → ℕ → Entry → ℕ → Node ℕ
-half w p q slot e child = cutRight q kept (wider slot e child (nodeIn w p))
+half w p q slot e child = cutRight q keeps (wider slot e child (nodeIn w p))
 
 abbrev pub Giving : ℕ → ℕ → ℕ → Entry → ℕ → ℕ → List ℕ → List ℕ → Type 0
 Giving p q slot e child n w w′ = Copied q (heightOf (pageOf w p)) (half w p q slot e child) n w w′

@@ -18,7 +18,7 @@ use Rattle.page.specs.declared.Change.{Change}
 use Rattle.page.specs.declared.Parting.{Parting}
 use Rattle.page.specs.Runs.{part, put, Changed}
 use Rattle.page.specs.Page.{Changes, Splits, parted}
-use Rattle.tree.specs.Pages.{most, kept, Inside, OnlyPages, ChangesIn, KeepsIn}
+use Rattle.tree.specs.Pages.{most, keeps, Inside, OnlyPages, ChangesIn, KeepsIn}
 use Rattle.model.proofs.Cases.{either-lt}
 use Rattle.model.proofs.Lists.{all-left, all-right, getD-tab}
 use Rattle.page.proofs.Parts.{changed, part-low, part-high, length-part}
@@ -122,18 +122,18 @@ module _ (w : List ℕ) (p : ℕ) (ys : List ℕ) (inside : Inside p w) (sized :
       lent-said w p ys inside sized (λ u v. Changes most (ok u) (x u) u v r) c in
       record {
         answer = s .answer;
-        same = λ no. lent-same w p (c .kept (ap ok (lent-page w p) ∙ no));
+        kept = λ no. lent-same w p (c .kept (ap ok (lent-page w p) ∙ no));
         holds = λ yes. holds-as y own children (s .holds yes);
         only = lent-only w p ys inside sized;
       }
 
-  pub lent-splits : {r : Parting} → Splits most kept (ok (lentPart w p)) (x (lentPart w p)) (lentPart w p) ys r → KeepsIn p (ok (pageOf w p)) y w (lentBack w p ys) r
+  pub lent-splits : {r : Parting} → Splits most keeps (ok (lentPart w p)) (x (lentPart w p)) (lentPart w p) ys r → KeepsIn p (ok (pageOf w p)) y w (lentBack w p ys) r
   lent-splits {r} c =
-      let s : Splits most kept (ok (pageOf w p)) (x (pageOf w p)) (pageOf w p) (pageOf (lentBack w p ys) p) r =
-      lent-said w p ys inside sized (λ u v. Splits most kept (ok u) (x u) u v r) c in
+      let s : Splits most keeps (ok (pageOf w p)) (x (pageOf w p)) (pageOf w p) (pageOf (lentBack w p ys) p) r =
+      lent-said w p ys inside sized (λ u v. Splits most keeps (ok u) (x u) u v r) c in
       record {
-        answer = s .answer ∙ ap (λ (l : List Entry). parted (ok (pageOf w p)) (getD l kept noEntry)) (sym own);
-        same = λ no. lent-same w p (c .kept (ap ok (lent-page w p) ∙ no));
-        left = λ yes. holds-as (cutLeft kept y) (ap (take kept) own) (ap (take (suc kept)) children) (s .holds yes);
+        answer = s .answer ∙ ap (λ (l : List Entry). parted (ok (pageOf w p)) (getD l keeps noEntry)) (sym own);
+        kept = λ no. lent-same w p (c .kept (ap ok (lent-page w p) ∙ no));
+        left = λ yes. holds-as (cutLeft keeps y) (ap (take keeps) own) (ap (take (suc keeps)) children) (s .holds yes);
         only = lent-only w p ys inside sized;
       }

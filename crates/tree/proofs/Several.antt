@@ -21,7 +21,7 @@ use Rattle.page.specs.declared.Parting.{Parting}
 use Rattle.page.specs.declared.Parting.the-variants as parting
 use Rattle.page.specs.Node.{more, wider, less, instead}
 use Rattle.page.specs.Page.{roomAt, holdsAt, fullAt}
-use Rattle.tree.specs.Pages.{most, kept, OnlyPages, nodeIn, Left, ChangesIn, KeepsIn, canSplit, SplitsIn, areApart, canPass, PassesIn, MovesIn, canJoin, JoinsIn}
+use Rattle.tree.specs.Pages.{most, keeps, OnlyPages, nodeIn, Becomes, ChangesIn, KeepsIn, canSplit, SplitsIn, areApart, canPass, PassesIn, MovesIn, canJoin, JoinsIn}
 use Rattle.model.proofs.Cases.{contrary, either, either-lt}
 use Rattle.model.proofs.Lists.{every-true}
 use Rattle.model.proofs.Read.{length-own, length-children}
@@ -47,14 +47,14 @@ module _ (w : List ℕ) (p q slot : ℕ) where
   pub split-none : {r : Parting} (x : Node ℕ) → canSplit w p q slot ≡ false → r ≡ parting.Unsound → SplitsIn p q (canSplit w p q slot) x w w r
   split-none x cannot e = record {
     answer = rw cannot e;
-    same = λ _. refl;
+    kept = λ _. refl;
     left = λ can. contrary can cannot;
     right = λ can. contrary can cannot;
     only = only-none (p ∷ q ∷ []) refl;
   }
 
   pub split-done : {w₁ w₂ : List ℕ} {r : Parting} (e : Entry) (child : ℕ) → p ≢ q → fullAt most (pageOf w p) slot ≡ true
-      → Holds most (heightOf (pageOf w p)) (cutRight q kept (wider slot e child (nodeIn w p))) (pageOf w₁ q) → OnlyPages (q ∷ []) w w₁
+      → Holds most (heightOf (pageOf w p)) (cutRight q keeps (wider slot e child (nodeIn w p))) (pageOf w₁ q) → OnlyPages (q ∷ []) w w₁
       → KeepsIn p (fullAt most (pageOf w₁ p) slot) (wider slot e child (nodeIn w₁ p)) w₁ w₂ r
       → SplitsIn p q (canSplit w p q slot) (wider slot e child (nodeIn w p)) w w₂ r
   split-done {w₁} {w₂} {r} e child n full right o k =
@@ -63,7 +63,7 @@ module _ (w : List ℕ) (p q slot : ℕ) where
       let k′ : KeepsIn p true (wider slot e child (nodeIn w p)) w₁ w₂ r = rw (same, full) at k in
       record {
         answer = rw can (k′ .answer);
-        same = λ cannot. contrary can cannot;
+        kept = λ cannot. contrary can cannot;
         left = λ _. rw same at (k′ .left refl);
         right = λ _. rw (k′ .only .others q ((λ i. n (sym i)), tt)) right;
         only = only-wider (p ∷ q ∷ []) (only-then o (k′ .only)) (λ z h. (h .1 .0, (h .0, tt)));
@@ -84,10 +84,10 @@ pass-facts w u i from fs fa to ts ta e =
     (h .0, h .1 .0, h .1 .1 .0, h .1 .1 .1 .0)
 
 module _ (w : List ℕ) (u i from fs fa to ts ta : ℕ) where
-  pub pass-none : {r : Change} → canPass w u i from fs fa to ts ta ≡ false → r ≡ change.Unsound → PassesIn u i from fs fa to ts ta w w r
+  pub pass-none : {r : Change} → canPass w u i from fs fa to ts ta ≡ false → r ≡ change.Unsound → PassesIn u i from fs fa to ts ta (canPass w u i from fs fa to ts ta) w w r
   pass-none cannot e = record {
     answer = rw cannot e;
-    same = λ _. refl;
+    kept = λ _. refl;
     above = λ can. contrary can cannot;
     gave = λ can. contrary can cannot;
     got = λ can. contrary can cannot;
@@ -99,7 +99,7 @@ module _ (w : List ℕ) (u i from fs fa to ts ta : ℕ) where
       → ChangesIn to (roomAt most (pageOf w to) ts ta) (more ts between ta child (nodeIn w to)) w w₁ a
       → ChangesIn u (holdsAt most (pageOf w₁ u) i 0) (instead i moved (nodeIn w₁ u)) w₁ w₂ b
       → ChangesIn from (holdsAt most (pageOf w₂ from) fs fa) (less fs fa (nodeIn w₂ from)) w₂ w₃ r
-      → PassesIn u i from fs fa to ts ta w w₃ r
+      → PassesIn u i from fs fa to ts ta (canPass w u i from fs fa to ts ta) w w₃ r
   pass-done {w₁} {w₂} {w₃} {a} {b} {r} between moved child can eb em ec got above gave =
       let f = pass-facts w u i from fs fa to ts ta can in
       let n = apart-facts u from to (f .0) in
@@ -113,7 +113,7 @@ module _ (w : List ℕ) (u i from fs fa to ts ta : ℕ) where
       let gave′ : ChangesIn from true (less fs fa (nodeIn w from)) w₂ w₃ r = rw (f₂, f .2) at gave in
       record {
         answer = rw can (gave′ .answer);
-        same = λ cannot. contrary can cannot;
+        kept = λ cannot. contrary can cannot;
         above = λ _. rw (u₃, ← own-at (pageOf w from) fs (hf .1), ← em) (rw u₁ at (above′ .holds refl));
         gave = λ _. rw f₂ at (gave′ .holds refl);
         got = λ _. rw (t₃, ← own-at (pageOf w u) i (hu .1), ← eb, ← child-at (pageOf w from) fa (hf .2), ← ec) (got .holds (f .3));
@@ -133,7 +133,7 @@ module _ (w : List ℕ) (u i from fs fa to ts ta : ℕ) where
 pub move-none : (w : List ℕ) (u i l r n : ℕ) {ok : Bool} {a : Change} → ok ≡ false → a ≡ change.Unsound → MovesIn u i l r n ok w w a
 move-none w u i l r n cannot e = record {
   answer = rw cannot e;
-  same = λ _. refl;
+  kept = λ _. refl;
   above = λ can. contrary can cannot;
   left = λ can. contrary can cannot;
   right = λ can. contrary can cannot;
@@ -148,13 +148,13 @@ module _ (w : List ℕ) (u i l r : ℕ) where
   between = getD (entriesOf most (pageOf w u)) i noEntry
 
   -- the left page has n + 1 entries, and gives its last
-  pub give-moves : {w′ : List ℕ} {a : Change} (n fa : ℕ) → countOf (pageOf w l) ≡ suc n → fa ≡ suc n → PassesIn u i l n fa r 0 0 w w′ a
+  pub give-moves : {w′ : List ℕ} {a : Change} (n fa : ℕ) → countOf (pageOf w l) ≡ suc n → fa ≡ suc n → PassesIn u i l n fa r 0 0 (canPass w u i l n fa r 0 0) w w′ a
       → MovesIn u i l r n (canPass w u i l n fa r 0 0) w w′ a
   give-moves n fa many ef c =
       let long : length (entriesOf most (pageOf w l)) ≡ suc n = length-own most (pageOf w l) ∙ many in
       record {
         answer = c .answer;
-        same = c .same;
+        kept = c .kept;
         above = λ can. rw (give-up 0 (nodeIn w l) between (nodeIn w r) forks n long) (c .above can);
         left = λ can. rw (give-left 0 (nodeIn w l) between (nodeIn w r) forks n long) (rw ef at (c .gave can));
         right = λ can. rw (give-right 0 (nodeIn w l) between (nodeIn w r) forks n long) (rw ef at (c .got can));
@@ -162,13 +162,13 @@ module _ (w : List ℕ) (u i l r : ℕ) where
       }
 
   -- the left page has n, and gets the right page's first
-  pub get-moves : {w′ : List ℕ} {a : Change} (n : ℕ) → countOf (pageOf w l) ≡ n → PassesIn u i r 0 0 l n (suc n) w w′ a
+  pub get-moves : {w′ : List ℕ} {a : Change} (n : ℕ) → countOf (pageOf w l) ≡ n → PassesIn u i r 0 0 l n (suc n) (canPass w u i r 0 0 l n (suc n)) w w′ a
       → MovesIn u i l r (suc n) (canPass w u i r 0 0 l n (suc n)) w w′ a
   get-moves n many c =
       let long : length (entriesOf most (pageOf w l)) ≡ n = length-own most (pageOf w l) ∙ many in
       record {
         answer = c .answer;
-        same = c .same;
+        kept = c .kept;
         above = λ can. rw (get-up 0 (nodeIn w l) between (nodeIn w r) forks n long) (c .above can);
         left = λ can. rw (get-left 0 (nodeIn w l) between (nodeIn w r) forks n long (omega (arith, length-children most (pageOf w r)))) (c .got can);
         right = λ can. rw (get-right 0 (nodeIn w l) between (nodeIn w r) forks n long) (c .gave can);
@@ -196,18 +196,18 @@ module _ (w : List ℕ) (u i l r : ℕ) where
       ∷ ltb (countOf (pageOf w l) + countOf (pageOf w r)) most ∷ []) e in
       record { apart = h .0; above = h .1 .0; left = leb-true _ _ (h .1 .1 .0); right = leb-true _ _ (h .1 .1 .1 .0); fits = ltb-true _ _ (h .1 .1 .1 .1 .0) }
 
-  pub join-none : {a : Change} → canJoin w u i l r ≡ false → a ≡ change.Unsound → JoinsIn u i l r w w a
+  pub join-none : {a : Change} → canJoin w u i l r ≡ false → a ≡ change.Unsound → JoinsIn u i l r (canJoin w u i l r) w w a
   join-none cannot e = record {
     answer = rw cannot e;
-    same = λ _. refl;
+    kept = λ _. refl;
     above = λ can. contrary can cannot;
     left = λ can. contrary can cannot;
     only = only-none (u ∷ l ∷ []) refl;
   }
 
   pub join-done : {w₁ w₂ : List ℕ} {a : Change} (e : Entry) → canJoin w u i l r ≡ true → e ≡ entryIn most (pageOf w u) i
-      → Left l (glue (nodeIn w l) e (nodeIn w r)) w w₁ → OnlyPages (l ∷ []) w w₁
-      → ChangesIn u (holdsAt most (pageOf w₁ u) i (i + 1)) (less i (i + 1) (nodeIn w₁ u)) w₁ w₂ a → JoinsIn u i l r w w₂ a
+      → Becomes l (glue (nodeIn w l) e (nodeIn w r)) w w₁ → OnlyPages (l ∷ []) w w₁
+      → ChangesIn u (holdsAt most (pageOf w₁ u) i (i + 1)) (less i (i + 1) (nodeIn w₁ u)) w₁ w₂ a → JoinsIn u i l r (canJoin w u i l r) w w₂ a
   join-done {w₁} {w₂} {a} e can ee left o c =
       let f = join-facts can in
       let n = apart-facts u l r (f .apart) in
@@ -216,7 +216,7 @@ module _ (w : List ℕ) (u i l r : ℕ) where
       let c′ : ChangesIn u true (less i (suc i) (nodeIn w u)) w₁ w₂ a = rw (next, u₁, f .above) at c in
       record {
         answer = rw can (c′ .answer);
-        same = λ cannot. contrary can cannot;
+        kept = λ cannot. contrary can cannot;
         above = λ _. rw u₁ at (c′ .holds refl);
         left = λ _. rw (← own-at (pageOf w u) i (holds-facts most (pageOf w u) i (suc i) (f .above) .1), ← ee, c .only .others l ((λ q. n .0 (sym q)), tt)) left;
         only = only-wider (u ∷ l ∷ []) (only-then o (c .only)) (λ z h. (h .1 .0, (h .0, tt)));

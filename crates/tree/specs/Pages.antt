@@ -25,8 +25,8 @@ abbrev pub most : ℕ
 most = mostEntries least
 
 -- a page that would hold one too many keeps so many: 5
-abbrev pub kept : ℕ
-kept = insertion.kept least
+abbrev pub keeps : ℕ
+keeps = insertion.kept least
 
 -- page p lies inside the words
 abbrev pub Inside : ℕ → List ℕ → Type 0
@@ -48,16 +48,16 @@ entryOf w p slot = getD (entriesOf most (pageOf w p)) slot noEntry
 abbrev pub childOf : List ℕ → ℕ → ℕ → ℕ
 childOf w p at = getD (childrenOf most (pageOf w p)) at 0
 
--- page p after, with the height that it had
-abbrev pub Left : ℕ → Node ℕ → List ℕ → List ℕ → Type 0
-Left p x w w′ = Holds most (heightOf (pageOf w p)) x (pageOf w′ p)
+-- page p becomes x, with the height that it had
+abbrev pub Becomes : ℕ → Node ℕ → List ℕ → List ℕ → Type 0
+Becomes p x w w′ = Holds most (heightOf (pageOf w p)) x (pageOf w′ p)
 
 -- ---- one page changed
 
 pub record ChangesIn (p : ℕ) (ok : Bool) (x : Node ℕ) (w w′ : List ℕ) (r : Change) : Type 0 where
   pub answer : r ≡ did ok
-  pub same : ok ≡ false → w′ ≡ w
-  pub holds : ok ≡ true → Left p x w w′
+  pub kept : ok ≡ false → w′ ≡ w
+  pub holds : ok ≡ true → Becomes p x w w′
   pub only : OnlyPages (p ∷ []) w w′
 
 -- ---- a full page with one entry more, x: the first five stay, the sixth goes up, and page q gets the last four
@@ -67,17 +67,17 @@ canSplit w p q slot = every (not (eqb p q) ∷ fullAt most (pageOf w p) slot ∷
 
 -- what becomes of page p
 pub record KeepsIn (p : ℕ) (ok : Bool) (x : Node ℕ) (w w′ : List ℕ) (r : Parting) : Type 0 where
-  pub answer : r ≡ parted ok (getD (x .own) kept noEntry)
-  pub same : ok ≡ false → w′ ≡ w
-  pub left : ok ≡ true → Left p (cutLeft kept x) w w′
+  pub answer : r ≡ parted ok (getD (x .own) keeps noEntry)
+  pub kept : ok ≡ false → w′ ≡ w
+  pub left : ok ≡ true → Becomes p (cutLeft keeps x) w w′
   pub only : OnlyPages (p ∷ []) w w′
 
 -- what becomes of both
 pub record SplitsIn (p q : ℕ) (ok : Bool) (x : Node ℕ) (w w′ : List ℕ) (r : Parting) : Type 0 where
-  pub answer : r ≡ parted ok (getD (x .own) kept noEntry)
-  pub same : ok ≡ false → w′ ≡ w
-  pub left : ok ≡ true → Left p (cutLeft kept x) w w′
-  pub right : ok ≡ true → Holds most (heightOf (pageOf w p)) (cutRight q kept x) (pageOf w′ q)
+  pub answer : r ≡ parted ok (getD (x .own) keeps noEntry)
+  pub kept : ok ≡ false → w′ ≡ w
+  pub left : ok ≡ true → Becomes p (cutLeft keeps x) w w′
+  pub right : ok ≡ true → Holds most (heightOf (pageOf w p)) (cutRight q keeps x) (pageOf w′ q)
   pub only : OnlyPages (p ∷ q ∷ []) w w′
 
 -- ---- two neighbours l and r, with entry i of their parent u between them
@@ -94,24 +94,24 @@ unfoldable pub canPass : List ℕ → ℕ → ℕ → ℕ → ℕ → ℕ → �
 canPass w u i from fs fa to ts ta =
     every (every (areApart u from to) ∷ holdsAt most (pageOf w u) i 0 ∷ holdsAt most (pageOf w from) fs fa ∷ roomAt most (pageOf w to) ts ta ∷ [])
 
-pub record PassesIn (u i from fs fa to ts ta : ℕ) (w w′ : List ℕ) (r : Change) : Type 0 where
-  pub answer : r ≡ did (canPass w u i from fs fa to ts ta)
-  pub same : canPass w u i from fs fa to ts ta ≡ false → w′ ≡ w
-  pub above : canPass w u i from fs fa to ts ta ≡ true → Left u (instead i (entryOf w from fs) (nodeIn w u)) w w′
-  pub gave : canPass w u i from fs fa to ts ta ≡ true → Left from (less fs fa (nodeIn w from)) w w′
-  pub got : canPass w u i from fs fa to ts ta ≡ true → Left to (more ts (entryOf w u i) ta (childOf w from fa) (nodeIn w to)) w w′
+pub record PassesIn (u i from fs fa to ts ta : ℕ) (ok : Bool) (w w′ : List ℕ) (r : Change) : Type 0 where
+  pub answer : r ≡ did ok
+  pub kept : ok ≡ false → w′ ≡ w
+  pub above : ok ≡ true → Becomes u (instead i (entryOf w from fs) (nodeIn w u)) w w′
+  pub gave : ok ≡ true → Becomes from (less fs fa (nodeIn w from)) w w′
+  pub got : ok ≡ true → Becomes to (more ts (entryOf w u i) ta (childOf w from fa) (nodeIn w to)) w w′
   pub only : OnlyPages (u ∷ from ∷ to ∷ []) w w′
 
 -- one entry through the parent: the three as one page are cut again behind n entries
 pub record MovesIn (u i l r n : ℕ) (ok : Bool) (w w′ : List ℕ) (a : Change) : Type 0 where
   pub answer : a ≡ did ok
-  pub same : ok ≡ false → w′ ≡ w
-  pub above : ok ≡ true → Left u (instead i (getD (glued w u i l r .own) n noEntry) (nodeIn w u)) w w′
-  pub left : ok ≡ true → Left l (cutLeft n (glued w u i l r)) w w′
-  pub right : ok ≡ true → Left r (cutRight r n (glued w u i l r)) w w′
+  pub kept : ok ≡ false → w′ ≡ w
+  pub above : ok ≡ true → Becomes u (instead i (getD (glued w u i l r .own) n noEntry) (nodeIn w u)) w w′
+  pub left : ok ≡ true → Becomes l (cutLeft n (glued w u i l r)) w w′
+  pub right : ok ≡ true → Becomes r (cutRight r n (glued w u i l r)) w w′
   pub only : OnlyPages (u ∷ l ∷ r ∷ []) w w′
 
--- a page of one entry at least gives its last, or its first
+-- the left page can give its last entry, the right page its first
 abbrev pub canGive : List ℕ → ℕ → ℕ → ℕ → ℕ → Bool
 canGive w u i l r = canPass w u i l (countOf (pageOf w l) - 1) (countOf (pageOf w l)) r 0 0
 
@@ -125,9 +125,9 @@ canJoin w u i l r =
     ∷ ltb (countOf (pageOf w l) + countOf (pageOf w r)) most ∷ [])
 
 -- the left page holds the three, and the parent loses entry i and the right page's number; the right page keeps its words
-pub record JoinsIn (u i l r : ℕ) (w w′ : List ℕ) (a : Change) : Type 0 where
-  pub answer : a ≡ did (canJoin w u i l r)
-  pub same : canJoin w u i l r ≡ false → w′ ≡ w
-  pub above : canJoin w u i l r ≡ true → Left u (less i (suc i) (nodeIn w u)) w w′
-  pub left : canJoin w u i l r ≡ true → Left l (glued w u i l r) w w′
+pub record JoinsIn (u i l r : ℕ) (ok : Bool) (w w′ : List ℕ) (a : Change) : Type 0 where
+  pub answer : a ≡ did ok
+  pub kept : ok ≡ false → w′ ≡ w
+  pub above : ok ≡ true → Becomes u (less i (suc i) (nodeIn w u)) w w′
+  pub left : ok ≡ true → Becomes l (glued w u i l r) w w′
   pub only : OnlyPages (u ∷ l ∷ []) w w′

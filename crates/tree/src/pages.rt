@@ -14,7 +14,7 @@ ghost use Rattle.model.specs.Insert.{cutRight};
 ghost use Rattle.model.specs.Mend.{glue};
 ghost use Rattle.page.specs.Node.{alone, more, wider, less, instead};
 ghost use Rattle.page.specs.Page.{roomAt, holdsAt, fullAt, placeOf};
-ghost use Rattle.tree.specs.Pages.{most, kept, Inside, OnlyPages, nodeIn, Left, ChangesIn, KeepsIn, canSplit, SplitsIn, areApart, canPass, PassesIn, MovesIn, canGive, canGet, canJoin, JoinsIn};
+ghost use Rattle.tree.specs.Pages.{most, keeps, Inside, OnlyPages, nodeIn, Becomes, ChangesIn, KeepsIn, canSplit, SplitsIn, areApart, canPass, PassesIn, MovesIn, canGive, canGet, canJoin, JoinsIn};
 use model::FIRST_PAGE;
 use model::KEPT;
 use model::LEAST;
@@ -157,7 +157,7 @@ fn wider_child(pool: &[u64], p: usize, slot: usize, child: u64, i: usize) -> u64
 fn give(pool: &mut [u64], p: usize, q: usize, slot: usize, key: u64, value: u64, child: u64)
     requires { ⌜ Inside p (now pool) × Inside q (now pool) × (p ≢ q) ⌝ }
     requires { ⌜ fullAt most (pageOf (now pool) p) slot ≡ true ⌝ }
-    ensures { λ _. ⌜ Holds most (heightOf (pageOf (now (pool .entry)) p)) (cutRight q kept (wider slot (entry key value) child (nodeIn (now (pool .entry)) p))) (pageOf (now (pool .exit)) q) ⌝ }
+    ensures { λ _. ⌜ Holds most (heightOf (pageOf (now (pool .entry)) p)) (cutRight q keeps (wider slot (entry key value) child (nodeIn (now (pool .entry)) p))) (pageOf (now (pool .exit)) q) ⌝ }
     ensures { λ _. ⌜ OnlyPages (q ∷ []) (now (pool .entry)) (now (pool .exit)) ⌝ }
 {
     let h = height(pool, p);
@@ -269,7 +269,7 @@ fn pass(
     ta: usize,
 ) -> Change
     requires { ⌜ Inside u (now pool) × Inside from (now pool) × Inside to (now pool) ⌝ }
-    ensures { λ r. ⌜ PassesIn u i from fs fa to ts ta (now (pool .entry)) (now (pool .exit)) r ⌝ }
+    ensures { λ r. ⌜ PassesIn u i from fs fa to ts ta (canPass (now (pool .entry)) u i from fs fa to ts ta) (now (pool .entry)) (now (pool .exit)) r ⌝ }
 {
     if !can_pass(pool, u, i, from, fs, fa, to, ts, ta) {
         return Change::Unsound;
@@ -335,7 +335,7 @@ fn can_join(pool: &[u64], u: usize, i: usize, l: usize, r: usize) -> bool
 fn append(pool: &mut [u64], l: usize, key: u64, value: u64, r: usize)
     requires { ⌜ Inside l (now pool) × Inside r (now pool) × (l ≢ r) ⌝ }
     requires { ⌜ (1 ≤ countOf (pageOf (now pool) l)) × (countOf (pageOf (now pool) l) + countOf (pageOf (now pool) r) < most) ⌝ }
-    ensures { λ _. ⌜ Left l (glue (nodeIn (now (pool .entry)) l) (entry key value) (nodeIn (now (pool .entry)) r)) (now (pool .entry)) (now (pool .exit)) ⌝ }
+    ensures { λ _. ⌜ Becomes l (glue (nodeIn (now (pool .entry)) l) (entry key value) (nodeIn (now (pool .entry)) r)) (now (pool .entry)) (now (pool .exit)) ⌝ }
     ensures { λ _. ⌜ OnlyPages (l ∷ []) (now (pool .entry)) (now (pool .exit)) ⌝ }
 {
     let n = count(pool, l);
@@ -354,7 +354,7 @@ fn append(pool: &mut [u64], l: usize, key: u64, value: u64, r: usize)
 // Two neighbours and the entry between them become the left page; the right page keeps its words, and its number leaves the parent.
 pub fn join(pool: &mut [u64], u: usize, i: usize, l: usize, r: usize) -> Change
     requires { ⌜ Inside u (now pool) × Inside l (now pool) × Inside r (now pool) × (i < most) ⌝ }
-    ensures { λ a. ⌜ JoinsIn u i l r (now (pool .entry)) (now (pool .exit)) a ⌝ }
+    ensures { λ a. ⌜ JoinsIn u i l r (canJoin (now (pool .entry)) u i l r) (now (pool .entry)) (now (pool .exit)) a ⌝ }
 {
     if !can_join(pool, u, i, l, r) {
         return Change::Unsound;
