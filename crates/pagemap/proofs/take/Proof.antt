@@ -1,9 +1,12 @@
 -- `pagemap::take` meets its contract: `map[w] | 1 << b` is the definition's word, and past the words nothing changes. Assumes nothing.
-use mathlib.Core.Path.{sym}
-use Prim.Native.Nat.{_%_, _/_}
+use mathlib.Core.Path.{sym, ap}
+use Prim.Native.Nat.{ℕ, _%_, _/_}
 use native.Mathlib.Omega.{arith}
+use lib.Bits.{bitOr}
+use lib.ListN.{set}
 use lib.Seq.{set-out}
 use borrow.Author.Needs.{needs}
+use Rattle.model.specs.Layout.{word}
 use Rattle.pagemap.specs.Bits.{setBit}
 use Rattle.pagemap.proofs.Word.{shl-one}
 use Rattle.pagemap.proofs.take.Statement.{statement}
@@ -29,7 +32,9 @@ same-length c = search needs
 
 returns : tie.Need-returns
 unfolding setBit
-returns c = rw (shl-one (c .before .before .args .page % 64) (omega arith))
+returns c =
+    let a = c .before .before .args in
+    ap (λ (one : ℕ). set (a .map .now) (a .page / 64) (bitOr (word (a .map .now) (a .page / 64)) one)) (shl-one (a .page % 64) (omega arith))
 
 returns-2 : tie.Need-returns-2
 unfolding setBit
