@@ -11,14 +11,15 @@ use Rattle.model.specs.Layout.{headWords, mapWords, least, word, Words}
 use Rattle.model.specs.PageMap.{mapOf}
 use Rattle.model.specs.Tree.{Tree, times, meets}
 use Rattle.model.specs.Page.{pageOf}
+use Rattle.model.specs.Standing.{Standing, Stands}
 use Rattle.model.specs.Pool.{Pool, poolOf}
 use Rattle.model.specs.Sound.{Sound}
+use Rattle.model.specs.Written.{Written}
 use Rattle.model.specs.Alike.{AlikePage, Alike}
 use Rattle.model.proofs.Cases.{either-eq, either-lt, same-other}
 use Rattle.model.proofs.Lists.{getD-tab}
 use Rattle.model.proofs.PageMap.{map-ext}
-use Rattle.model.proofs.Standing.{Standing, Stands}
-use Rattle.model.proofs.Written.{Written, sound-written}
+use Rattle.model.proofs.Written.{sound-written}
 
 -- ---- one tree in two pools
 

@@ -12,10 +12,11 @@ use Rattle.model.specs.Page.{pageOf}
 use Rattle.model.specs.Entries.{shut}
 use Rattle.model.specs.Pool.{poolOf, withCursor}
 use Rattle.model.specs.Sound.{Sound}
+use Rattle.model.specs.Written.{Written}
 use Rattle.model.specs.PoolCalls.{copied}
 use Rattle.model.proofs.Standing.{standing-frame}
 use Rattle.model.proofs.Right.{right-shut, sound-right}
-use Rattle.model.proofs.Written.{written-sound, Written, sound-written, written-pool}
+use Rattle.model.proofs.Written.{written-sound, sound-written, written-pool}
 
 module _ (w : List ℕ) (long : 8 ≤ length w) where
   first : length (take 5 w) ≡ 5

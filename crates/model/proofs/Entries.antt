@@ -93,6 +93,16 @@ unfolding gapOf
 gap-le before [] = omega arith
 gap-le before (e ∷ es) = either (before (e .key)) (λ y. rw y (omega (arith, gap-le before es))) (λ n. rw n (omega arith))
 
+pub gap-start : (es : List Entry) → gapOf (λ x. false) es ≡ 0
+unfolding gapOf
+gap-start [] = refl
+gap-start (e ∷ es) = refl
+
+pub gap-end : (es : List Entry) → gapOf (λ x. true) es ≡ length es
+unfolding gapOf
+gap-end [] = refl
+gap-end (e ∷ es) = ap suc (gap-end es)
+
 -- in front of the gap every entry is before
 pub gap-front : (before : ℕ → Bool) (es : List Entry) (i : ℕ) → i < gapOf before es → before (keyAt es i) ≡ true
 unfolding gapOf
@@ -192,6 +202,16 @@ gap-after-entry g es r b = gap-after-has (keyAt es g) es r (has-entry g es r b) 
 
 pub has-absent : (k : ℕ) (es : List Entry) → Rising es → has k es ≡ false → (i : ℕ) → i < length es → keyAt es i ≢ k
 has-absent k es r n i b q = let y : has k es ≡ true = rw q at (has-entry i es r b) in let z : _≡_ {A = ℕ} 0 1 = cc in omega arith
+
+-- an absent key has one gap
+pub gap-after-absent : (k : ℕ) (es : List Entry) → Rising es → has k es ≡ false → gapAfter k es ≡ gapBefore k es
+gap-after-absent k es r n =
+    let before : ℕ → Bool = λ x. ltb x k in
+    gap-unique (λ x. leb x k) es (gapBefore k es) (gap-le before es)
+    (λ i l. le-leb (keyAt es i) k (omega (arith, ltb-true (keyAt es i) k (gap-front before es i l))))
+    (λ l.
+    let other : keyAt es (gapBefore k es) ≢ k = has-absent k es r n (gapBefore k es) l in
+    lt-leb (keyAt es (gapBefore k es)) k (omega (arith, ltb-false (keyAt es (gapBefore k es)) k (gap-back before es (falls-below k) r (gapBefore k es) (omega arith) l))))
 
 -- ---- lists in two parts
 

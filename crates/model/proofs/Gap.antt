@@ -1,16 +1,19 @@
 -- A gap lies in one child of a page, at one of that child's gaps, and in no other. Over a function `f` that says what a child holds; then of trees.
+-- And the pages that the gap's path meets are the tree's.
 -- Assumes nothing.
 use mathlib.Core.Path.{_≡_, sym, ap, ap₂, _∙_, refl}
 use mathlib.Core.List.{List, [], _∷_, _++_}
-use Prim.Native.Nat.{ℕ, suc, _+_, _-_, _≤_, _<_}
+use Prim.Native.Nat.{ℕ, zero, suc, _+_, _-_, _≤_, _<_}
 use native.Mathlib.Omega.{arith}
-use lib.ListN.{length, take, drop, getD, length-append}
+use lib.ListN.{length, take, drop, getD, length-append, List·getD-append}
+use lib.Seq.{drop-cons, getD-at, getD-append-add}
 use borrow.Author.Tests.{le-leb, lt-leb}
-use Rattle.model.specs.Lists.{ins, sum}
-use Rattle.model.specs.Tree.{Tree, noTree, weave, entries, size, Shaped, Entry}
-use Rattle.model.specs.Gap.{slot, rest, slotAt, restAt, childAt}
-use Rattle.model.proofs.Cases.{either-le}
+use Rattle.model.specs.Lists.{ins, sum, same}
+use Rattle.model.specs.Tree.{Tree, noTree, weave, entries, size, times, Shaped, Entry}
+use Rattle.model.specs.Gap.{slot, rest, slotAt, restAt, child, childAt, gapPages}
+use Rattle.model.proofs.Cases.{either-le, same-self}
 use Rattle.model.proofs.Lists.{ins-inside, all-at}
+use Rattle.model.proofs.Sums.{sum-at}
 use Rattle.model.proofs.Weave.{left, right, weave-at, length-weave}
 
 -- gap g of the page is gap g′ of its child i
@@ -57,7 +60,26 @@ module _ {S A : Type 0} (f : S → List A) where
       let ih = slot-at ls xs c rs (g - suc (long s)) g′ (omega arith) h (omega arith) in
       rw (lt-leb g (long s) (omega arith)) (ap suc (ih .0), ih .1)
 
+module _ {S A : Type 0} (f : S → List A) (ss : List S) (es : List A) (d : S) (g i g′ : ℕ) (k : length ss ≡ suc (length es)) (L : Located f ss es d g i g′) where
+  -- the entry after the gap is the child's entry after the child's gap, if the child has one
+  pub located-below : (x : A) → g′ < length (f (getD ss i d)) → getD (weave f ss es) g x ≡ getD (f (getD ss i d)) g′ x
+  located-below x b =
+      ap₂ (λ l n. getD l n x) (weave-at f ss es i d k (L .inside)) (sym (L .place))
+      ∙ getD-append-add (left f (take i ss) (take i es)) (f (getD ss i d) ++ right f (drop i es) (drop (suc i) ss)) g′ x
+      ∙ List·getD-append (f (getD ss i d)) (right f (drop i es) (drop (suc i) ss)) x g′ b
+
+  -- else it is the page's own
+  pub located-here : (x : A) → length (f (getD ss i d)) ≤ g′ → i < length es → getD (weave f ss es) g x ≡ getD es i x
+  located-here x a o =
+      ap₂ (λ l n. getD l n x) (weave-at f ss es i d k (L .inside)) (sym (L .place))
+      ∙ getD-append-add (left f (take i ss) (take i es)) (f (getD ss i d) ++ right f (drop i es) (drop (suc i) ss)) g′ x
+      ∙ rw (drop-cons es i x o) (getD-at (f (getD ss i d)) (getD es i x) (weave f (drop (suc i) ss) (drop (suc i) es)) x g′ (omega (arith, L .fits)))
+
 -- ---- of trees
+
+pub shaped-forks : (m low h : ℕ) (t : Tree (suc h)) → Shaped m low (suc h) t → length (t .children) ≡ suc (length (t .own))
+unfolding Shaped
+shaped-forks m low h t s = s .forks
 
 -- the size of a tree is the entries of its page and the sizes of its children
 pub size-suc : (m low h : ℕ) (t : Tree (suc h)) → Shaped m low (suc h) t → size (suc h) t ≡ length (t .own) + sum (size h) (t .children)
@@ -80,6 +102,15 @@ pub leaf-entries : (t : Tree 1) → entries 1 t ≡ t .own
 unfolding entries
 leaf-entries t = leaf-holds (t .children) (t .own)
 
+-- and its slots are its gaps
+pub leaf-slot : (ss : List (Tree 0)) (g : ℕ) → g < length ss → slot (size 0) ss g ≡ g
+unfolding entries
+leaf-slot [] g b = absurd (omega arith)
+leaf-slot (s ∷ ss) zero b = refl
+leaf-slot (s ∷ ss) (suc g) b =
+    let z : suc g - 1 ≡ g = omega arith in
+    rw (lt-leb (suc g) 0 (omega arith), z) (ap suc (leaf-slot ss g (omega arith)))
+
 module _ (m low h : ℕ) (t : Tree (suc h)) (g : ℕ) (s : Shaped m low (suc h) t) (b : g ≤ size (suc h) t) where
   pub way-down : Located (entries h) (t .children) (t .own) (noTree h) g (slotAt h t g) (restAt h t g)
   unfolding entries Shaped
@@ -92,3 +123,21 @@ module _ (m low h : ℕ) (t : Tree (suc h)) (g : ℕ) (s : Shaped m low (suc h) 
   pub slot-le : slotAt h t g ≤ length (t .own)
   unfolding Shaped
   slot-le = let k = s .forks in omega (arith, way-down .inside)
+
+-- ---- the pages of a tree
+
+pub times-page : (h : ℕ) (t : Tree (suc h)) → 0 < times (t .page) (suc h) t
+unfolding times
+times-page h t = omega (arith, same-self (t .page))
+
+pub times-child : (q h : ℕ) (t : Tree (suc h)) (i : ℕ) → i < length (t .children) → times q h (child h t i) ≤ times q (suc h) t
+unfolding times
+times-child q h t i b = omega (arith, sum-at (times q h) (t .children) i (noTree h) b)
+
+-- each page of a gap's path is the tree's
+pub path-met : (q m low h : ℕ) (t : Tree h) (g : ℕ) → Shaped m low h t → g ≤ size h t → sum (same q) (gapPages h t g) ≤ times q h t
+unfolding gapPages times
+path-met q m low zero t g s b = omega arith
+path-met q m low (suc h) t g s b =
+    let L = way-down m low h t g s b in
+    omega (arith, path-met q m m h (childAt h t g) (restAt h t g) (child-shaped m low h t g s b) (L .fits), sum-at (times q h) (t .children) (slotAt h t g) (noTree h) (L .inside))

@@ -1,8 +1,8 @@
 -- What a head that fits says, as facts about its words, and the way back: words of which the facts hold have a head that fits.
 -- Assumes nothing.
 use mathlib.Core.Path.{_≡_, refl, sym, _∙_}
-use mathlib.Core.Bool.{Bool, true, false, cond}
-use mathlib.Core.List.{List, [], _∷_, _++_, map}
+use mathlib.Core.Bool.{Bool, true}
+use mathlib.Core.List.{List, _++_, map}
 use Prim.Native.Nat.{ℕ, zero, suc, _+_, _-_, _*_, _≤_, _<_}
 use native.Mathlib.Omega.{arith}
 use lib.Dec.{eqb}
@@ -11,7 +11,7 @@ use borrow.Author.Tests.{leb-true, le-leb, eqb-true, eqb-false, eq-eqb, ne-eqb, 
 use Rattle.model.specs.Lists.{tab, All, every}
 use Rattle.model.specs.Layout.{headWords, mostPages, mostLevels, least, mostEntries, firstWord, pagesIn, allowed, word, lengthTests}
 use Rattle.model.specs.Head.{countWord, rootWord, levelsWord, openWord, afterWord, kindWord, fits, headed, bothOrNeither, headTests}
-use Rattle.model.proofs.Lists.{all-append, all-right, every-all, every-true}
+use Rattle.model.proofs.Lists.{all-append, all-right, every-all, every-true, every-append}
 
 -- P, the number of pages, is `pagesIn (length w)`
 pub record HeadFacts (w : List ℕ) : Type 0 where
@@ -31,11 +31,6 @@ pub record HeadFacts (w : List ℕ) : Type 0 where
   pub spare : (i : ℕ) → 9 ≤ i → i < headWords → word w i ≡ 0
 
 -- ---- tests
-
-every-append : (bs cs : List Bool) → every (bs ++ cs) ≡ cond (every bs) (every cs) false
-every-append [] cs = refl
-every-append (true ∷ bs) cs = every-append bs cs
-every-append (false ∷ bs) cs = refl
 
 both-true : (a b : ℕ) → bothOrNeither a b ≡ true → (a ≡ 0 → b ≡ 0) × (0 < a → 0 < b)
 both-true zero b e = (λ z. eqb-true b 0 e, λ l. absurd (omega arith))

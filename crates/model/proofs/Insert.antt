@@ -1,8 +1,8 @@
 -- Insertion at a gap: the entries after are those before with the new one at the gap, the pages met are those before and the fresh ones that the
--- insertion needs, the tree stays formed, and it has a level more exactly where the root split.
+-- insertion needs, the tree stays formed, its root keeps its page, and it has a level more exactly where the root split.
 -- First of one page, over any type of child; then of trees; then of the whole tree.
 -- Assumes nothing.
-use mathlib.Core.Path.{_≡_, refl, sym, _∙_}
+use mathlib.Core.Path.{_≡_, refl, sym, ap, _∙_}
 use mathlib.Core.Bool.{cond}
 use mathlib.Core.List.{List, [], _∷_, _++_}
 use Prim.Native.Nat.{ℕ, zero, suc, _+_, _≤_, _<_, max}
@@ -14,6 +14,7 @@ use borrow.Author.Tests.{le-leb, lt-leb, eq-eqb, ne-eqb}
 use Rattle.model.specs.Lists.{ins, sumTo, same, All}
 use Rattle.model.specs.Layout.{mostEntries}
 use Rattle.model.specs.Tree.{Entry, Node, Tree, Whole, noTree, holds, entries, size, passes, times, Filled, Shaped, held, meets, Formed}
+use Rattle.model.specs.Standing.{rootOf}
 use Rattle.model.specs.Gap.{slotAt, restAt, childAt}
 use Rattle.model.specs.Insert.{Up, whole, split, fit, grown, put, insertAt, top, insert, onward, run, needed, kept}
 use Rattle.model.proofs.Cases.{either-le, either-eq}
@@ -33,6 +34,11 @@ upEntries f (split l e r) = f l ++ e ∷ f r
 abbrev pub upTimes : {S : Type 0} → (S → ℕ) → Up S → ℕ
 upTimes f (whole c) = f c
 upTimes f (split l e r) = f l + f r
+
+-- the page that stays, or the left half
+abbrev pub upLeft : {S : Type 0} → Up S → S
+upLeft (whole c) = c
+upLeft (split l e r) = l
 
 -- P of the page after; or Q of both halves
 abbrev pub UpIs : {S : Type 0} → (S → Type 0) → (S → Type 0) → Up S → Type 0
@@ -158,6 +164,19 @@ module _ (m : ℕ) (fresh : ℕ → ℕ) where
       let L = way-down m low h t g s b in
       put-filled m (fresh h) low (Shaped m m h) t (slotAt h t g) _ s (L .inside)
       (insertAt-shaped m h (childAt h t g) (restAt h t g) e (child-shaped m low h t g s b) (L .fits))
+
+-- the page that stays has the root's number
+put-page : {S : Type 0} (m q : ℕ) (x : Node S) (i : ℕ) (o : Up S) → upLeft (put m q x i o) .page ≡ x .page
+unfolding put fit
+put-page m q x i (whole c) = refl
+put-page m q x i (split l e r) =
+    let n = length (grown x i l e r .own) in
+    either-le n (mostEntries m) (λ b. rw (le-leb n (mostEntries m) b)) (λ b. rw (lt-leb n (mostEntries m) b))
+
+pub insertAt-root : (m : ℕ) (fresh : ℕ → ℕ) (h : ℕ) (t : Tree h) (g : ℕ) (e : Entry) → rootOf h (upLeft (insertAt m fresh h t g e)) ≡ rootOf h t
+unfolding insertAt
+insertAt-root m fresh zero t g e = refl
+insertAt-root m fresh (suc h) t g e = ap suc (put-page m (fresh h) t (slotAt h t g) (insertAt m fresh h (childAt h t g) (restAt h t g) e))
 
 -- ---- how many pages
 

@@ -1,15 +1,16 @@
 -- Laws of lists, in general. Nothing here knows of trees.
 -- Assumes nothing.
 use mathlib.Core.Path.{_≡_, refl, sym, ap, _∙_, ap₂}
-use mathlib.Core.Bool.{Bool, true, false}
+use mathlib.Core.Bool.{Bool, true, false, cond}
 use mathlib.Core.Option.{none, some}
 use mathlib.Core.List.{List, [], _∷_, _++_, map, append-assoc, map-append}
 use Prim.Native.Nat.{ℕ, zero, suc, _+_, _≤_, _<_}
 use native.Mathlib.Nat.{zero-add, suc-add}
 use native.Mathlib.Omega.{arith}
 use lib.ListN.{length, take, drop, getD, set, length-append, length-take, length-drop, getElem?, List·getD-append}
-use lib.Seq.{take-append-le, drop-append-le, take-append-add, drop-append-add, split-at, drop-cons, set-split, set-append-left, set-append-seam, length-take-le, getD-at, getD-take}
+use lib.Seq.{take-append-le, drop-append-le, take-append-add, drop-append-add, split-at, drop-cons, set-split, set-append-left, set-append-seam, length-take-le, getD-at, getD-take, map-set-same}
 use Rattle.model.specs.Lists.{ins, splice, tab, All, final, every, del}
+use Rattle.model.proofs.Cases.{contrary}
 
 module _ {A : Type 0} where
   pub length-ins : (g : ℕ) (x : A) (l : List A) → g ≤ length l → length (ins g x l) ≡ suc (length l)
@@ -33,6 +34,15 @@ module _ {A : Type 0} where
   ins-after (suc g) x [] i d h b = absurd (omega arith)
   ins-after (suc g) x (y ∷ l) zero d h b = absurd (omega arith)
   ins-after (suc g) x (y ∷ l) (suc i) d h b = ins-after g x l i d (omega arith) (omega arith)
+
+  -- and of a list with one less
+  pub length-del : (g : ℕ) (l : List A) → g < length l → suc (length (del g l)) ≡ length l
+  length-del g l h = simp (length-append, length-take, length-drop) (omega arith)
+
+  pub del-before : (g : ℕ) (l : List A) (i : ℕ) (d : A) → i < g → g ≤ length l → getD (del g l) i d ≡ getD l i d
+  del-before g l i d h b =
+      let long : length (take g l) ≡ g = length-take-le g l b in
+      List·getD-append (take g l) (drop (suc g) l) d i (omega arith) ∙ getD-take g l i d h
 
   -- a gap inside the middle part
   pub ins-inside : (l c r : List A) (g : ℕ) (x : A) → g ≤ length c → ins (length l + g) x (l ++ (c ++ r)) ≡ l ++ (ins g x c ++ r)
@@ -187,6 +197,15 @@ module _ {S U : Type 0} (f : S → U) where
   pub map-del : (i : ℕ) (l : List S) → map f (del i l) ≡ del i (map f l)
   map-del i l = simp (map-append, map-take, map-drop)
 
+  -- one for one of the same image: the images stay. Two for one, the first of the same image: an image more
+  pub splice-same : (l : List S) (i : ℕ) (x d : S) → i < length l → f x ≡ f (getD l i d) → map f l ≡ map f (splice i (x ∷ []) l)
+  splice-same l i x d h e = sym (ap (map f) (splice-one i x l h) ∙ map-set-same f l i x d e)
+
+  pub splice-more : (l : List S) (i : ℕ) (x y d : S) → i < length l → f x ≡ f (getD l i d) → ins (suc i) (f y) (map f l) ≡ map f (splice i (x ∷ y ∷ []) l)
+  splice-more [] i x y d h e = absurd (omega arith)
+  splice-more (z ∷ l) zero x y d h e = ap (λ (u : U). u ∷ f y ∷ map f l) (sym e)
+  splice-more (z ∷ l) (suc i) x y d h e = ap (λ (r : List U). f z ∷ r) (splice-more l i x y d (omega arith) e)
+
 pub getD-tab : {A : Type 0} (n : ℕ) (f : ℕ → A) (i : ℕ) (d : A) → i < n → getD (tab n f) i d ≡ f i
 getD-tab zero f i d h = absurd (omega arith)
 getD-tab (suc n) f zero d h = refl
@@ -217,3 +236,22 @@ every-true (false ∷ bs) e = let z : _≡_ {A = ℕ} 0 1 = cc in absurd (omega 
 pub every-all : (bs : List Bool) → All (λ b. b ≡ true) bs → every bs ≡ true
 every-all [] a = refl
 every-all (b ∷ bs) a = rw (a .0) (every-all bs (a .1))
+
+pub every-append : (bs cs : List Bool) → every (bs ++ cs) ≡ cond (every bs) (every cs) false
+every-append [] cs = refl
+every-append (true ∷ bs) cs = every-append bs cs
+every-append (false ∷ bs) cs = refl
+
+-- the rest decides, or one that fails
+pub every-then : (bs cs : List Bool) → every bs ≡ true → every (bs ++ cs) ≡ every cs
+every-then bs cs e = every-append bs cs ∙ rw e
+
+pub every-fails : (k : ℕ) (bs : List Bool) → getD bs k true ≡ false → every bs ≡ false
+every-fails k [] e = contrary refl e
+every-fails zero (b ∷ bs) e = rw e
+every-fails (suc k) (true ∷ bs) e = every-fails k bs e
+every-fails (suc k) (false ∷ bs) e = refl
+
+pub every-one : (b : Bool) → every (b ∷ []) ≡ b
+every-one true = refl
+every-one false = refl

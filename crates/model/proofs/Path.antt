@@ -5,7 +5,7 @@ use mathlib.Core.Path.{_≡_, refl, sym, ap, _∙_}
 use mathlib.Core.List.{List, [], _∷_, _++_}
 use Prim.Native.Nat.{ℕ, zero, suc, _+_, _-_, _≤_, _<_}
 use native.Mathlib.Omega.{arith}
-use lib.ListN.{length, getD, set, length-append}
+use lib.ListN.{length, drop, getD, set, length-append, drop-of-length-le}
 use lib.Seq.{set-getD}
 use borrow.Author.Tests.{le-leb, lt-leb}
 use Rattle.model.specs.Lists.{final}
@@ -14,7 +14,8 @@ use Rattle.model.specs.Gap.{slot, rest, slotAt, restAt, child, childAt}
 use Rattle.model.specs.Mend.{Plan, keep, move, join, mend}
 use Rattle.model.specs.Remove.{lost, planAt, step, removeAt}
 use Rattle.model.proofs.Lists.{final-append, final-other}
-use Rattle.model.proofs.Gap.{child-shaped, leaf-entries, size-some}
+use Rattle.model.proofs.Weave.{weave-at}
+use Rattle.model.proofs.Gap.{shaped-forks, way-down, child-shaped, leaf-entries, size-some}
 
 -- ---- the end of a page, over a function `f` that says what a child holds
 
@@ -45,6 +46,17 @@ module _ {S A : Type 0} (f : S → List A) where
   final-end a (s ∷ ss) [] d k h = refl
   final-end a (s ∷ ss) (e ∷ es) d k h =
       final-append a (f s) e (weave f ss es) ∙ final-end e ss es d (omega arith) h ∙ final-other e a (f (getD ss (length es) d)) h
+
+-- a gap that is the last child's end is the page's end
+pub end-at-last : (m low h : ℕ) (t : Tree (suc h)) (g : ℕ) → Shaped m low (suc h) t → g ≤ size (suc h) t → length (t .own) ≤ slotAt h t g
+    → size h (childAt h t g) ≤ restAt h t g → size (suc h) t ≤ g
+unfolding entries
+end-at-last m low h t g s b last end =
+    let i = slotAt h t g in
+    let way = way-down m low h t g s b in
+    let none : drop i (t .own) ≡ [] = drop-of-length-le (t .own) last in
+    let whole = ap length (weave-at (entries h) (t .children) (t .own) i (noTree h) (shaped-forks m low h t s) (way .inside)) in
+    omega (arith, rw none at (simp length-append at whole), way .place)
 
 -- ---- the leaf at the end of the path, and the gap there
 

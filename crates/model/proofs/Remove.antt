@@ -14,10 +14,10 @@ use Rattle.model.specs.Gap.{slotAt, restAt, child, childAt}
 use Rattle.model.specs.Remove.{gone, lost, planAt, step, stepFreed, removeAt, freedAt, collapse, collapseFreed, removeIn, freedIn, remove, freed}
 use Rattle.model.proofs.Cases.{either-le}
 use Rattle.model.proofs.Lists.{all-take, all-drop, all-at, all-map}
-use Rattle.model.proofs.Sums.{sum-append, sum-set}
+use Rattle.model.proofs.Sums.{sum-single, sum-append, sum-set}
 use Rattle.model.proofs.Gap.{way-down, child-shaped, leaf-holds, size-some}
 use Rattle.model.proofs.Gone.{Some, gone-length, gone-at, weave-gone}
-use Rattle.model.proofs.Mend.{filled-loosen, Able, plan-able, mend-holds, mend-passes, mend-filled}
+use Rattle.model.proofs.Mend.{filled-loosen, Loose, Able, plan-able, mend-holds, mend-passes, mend-filled}
 
 -- ---- a page with no entry has one child, and holds what that holds
 
@@ -26,11 +26,6 @@ weave-only : {S : Type 0} (f : S → List Entry) (ss : List S) (es : List Entry)
 weave-only f [] es d k n = absurd (omega arith)
 weave-only f (s ∷ ss) [] d k n = refl
 weave-only f (s ∷ ss) (e ∷ es) d k n = absurd (omega arith)
-
-sum-only : {S : Type 0} (f : S → ℕ) (ss : List S) (d : S) → length ss ≡ 1 → sum f ss ≡ f (getD ss 0 d)
-sum-only f [] d k = absurd (omega arith)
-sum-only f (s ∷ []) d k = omega arith
-sum-only f (s ∷ s′ ∷ ss) d k = absurd (omega arith)
 
 -- ---- trees of no levels have no page
 
@@ -67,30 +62,48 @@ leaf-without m low t g c pl s =
 
 -- ---- an upper page t, whose child at gap g becomes c
 
+abbrev pub lostAt : (h : ℕ) → Tree (suc h) → ℕ → Tree h → Tree (suc h)
+lostAt h t g c = lost h t (slotAt h t g) (restAt h t g) c
+
+-- before it is mended: c may have one entry too few
+module _ (m low h : ℕ) (t : Tree (suc (suc h))) (g : ℕ) (pl : 1 ≤ low) (s : Shaped m low (suc (suc h)) t) (b : g ≤ size (suc (suc h)) t) (c : Tree (suc h)) where
+  lost-inside : slotAt (suc h) t g < length (t .children)
+  lost-inside = way-down m low (suc h) t g s b .inside
+
+  pub lost-forks : length ((lostAt (suc h) t g c) .children) ≡ suc (length ((lostAt (suc h) t g c) .own))
+  unfolding Shaped
+  lost-forks = simp length-set (s .forks)
+
+  pub lost-loose : Shaped m (m - 1) (suc h) c → Loose (Shaped m m h) m (lostAt (suc h) t g c) (slotAt (suc h) t g)
+  unfolding Shaped
+  lost-loose k =
+      let i : ℕ = slotAt (suc h) t g in
+      record {
+        inside = simp length-set (omega (arith, s .forks, lost-inside));
+        some = simp length-set (omega (arith, s .few));
+        before = let z : i ≤ i = omega arith in rw take-set-le (all-take (Shaped m m (suc h)) i (t .children) (s .below));
+        mid = let z : i < length (t .children) = lost-inside in rw getD-set-same k;
+        after = let z : i < suc i = omega arith in rw drop-set-lt (all-drop (Shaped m m (suc h)) (suc i) (t .children) (s .below));
+      }
+
+  pub lost-times : (p : ℕ) → times p (suc (suc h)) (lostAt (suc h) t g c) + times p (suc h) (childAt (suc h) t g) ≡ times p (suc (suc h)) t + times p (suc h) c
+  unfolding times
+  lost-times p = omega (arith, sum-set (times p (suc h)) (t .children) (slotAt (suc h) t g) c (noTree (suc h)) lost-inside)
+
+-- and mended
 module _ (m low h : ℕ) (t : Tree (suc (suc h))) (g : ℕ) (pm : 1 ≤ m) (pl : 1 ≤ low) (s : Shaped m low (suc (suc h)) t) (b : g ≤ size (suc (suc h)) t)
     (c : Tree (suc h)) (free : List ℕ) (w : Without m m h (childAt (suc h) t g) (restAt (suc h) t g) c free) where
   abbrev i : ℕ
   i = slotAt (suc h) t g
 
   abbrev u : Tree (suc (suc h))
-  u = lost (suc h) t i (restAt (suc h) t g) c
-
-  i-in : i < length (t .children)
-  i-in = way-down m low (suc h) t g s b .inside
+  u = lostAt (suc h) t g c
 
   u-forks : length (u .children) ≡ suc (length (u .own))
-  unfolding Shaped
-  u-forks = simp length-set (s .forks)
+  u-forks = lost-forks m low h t g pl s b c
 
   u-able : Able (Shaped m m h) m u (planAt m h u i)
-  unfolding Shaped
-  u-able = plan-able (Shaped m m h) m u u-forks i (record {
-    inside = simp length-set (omega (arith, s .forks, i-in));
-    some = simp length-set (omega (arith, s .few));
-    before = let z : i ≤ i = omega arith in rw take-set-le (all-take (Shaped m m (suc h)) i (t .children) (s .below));
-    mid = let z : i < length (t .children) = i-in in rw getD-set-same (w .shaped);
-    after = let z : i < suc i = omega arith in rw drop-set-lt (all-drop (Shaped m m (suc h)) (suc i) (t .children) (s .below));
-  })
+  u-able = plan-able (Shaped m m h) m u u-forks i (lost-loose m low h t g pl s b c (w .shaped))
 
   step-without : Without m low (suc h) t g (step m (suc h) t g c) (free ++ stepFreed m (suc h) t g c)
   unfolding Shaped entries times step stepFreed
@@ -105,7 +118,7 @@ module _ (m low h : ℕ) (t : Tree (suc (suc h))) (g : ℕ) (pm : 1 ≤ m) (pl :
       w .met p,
       sum-append (same p) free (stepFreed m (suc h) t g c),
       mend-passes (Shaped m m h) m u u-forks p (times p h) (planAt m h u i) u-able,
-      sum-set (times p (suc h)) (t .children) i c (noTree (suc h)) i-in,
+      lost-times m low h t g pl s b c p,
     );
   }
 
@@ -157,7 +170,7 @@ collapse-kept m h t pm s =
     (λ n. rw (lt-leb 1 (length (t .own)) n) (record {
       formed = shaped-root m h (child h t 0) pm (all-at (Shaped m m h) (t .children) 0 (noTree h) (omega (arith, s .forks)) (s .below));
       holds = weave-only (entries h) (t .children) (t .own) (noTree h) (s .forks) n;
-      met = λ p. omega (arith, sum-only (times p h) (t .children) (noTree h) (omega (arith, s .forks)));
+      met = λ p. omega (arith, sum-single (times p h) (t .children) (noTree h) (omega (arith, s .forks)));
     }))
 
 remove-kept : (m h : ℕ) (t : Tree h) (g : ℕ) → 1 ≤ m → Shaped m 1 h t → g < size h t

@@ -1,36 +1,21 @@
--- A tree stands in pages: each of its pages has the words that say so. That is what reading finds, and what writing has to show: a tree that stands in
--- pages is read from them, its heights are right, and whoever changes none of its pages changes nothing of it.
+-- What reading finds, and what writing has to show: the tree that is read stands in the pages; a tree that stands in pages is read from them, its heights
+-- are right, and whoever changes none of its pages changes nothing of it.
 -- Assumes nothing.
-use mathlib.Core.Path.{_≡_, refl, ap, ap₂, _∙_}
-use mathlib.Core.List.{List, [], _∷_, map}
-use Prim.Native.Nat.{ℕ, zero, suc, pred, _<_}
+use mathlib.Core.Path.{_≡_, refl, ap, ap₂, subst, _∙_}
+use mathlib.Core.List.{List, [], _∷_, _++_, map}
+use Prim.Native.Nat.{ℕ, zero, suc, pred, _+_, _<_}
 use native.Mathlib.Omega.{arith}
-use lib.ListN.{length, length-map}
-use Rattle.model.specs.Lists.{All, sum}
+use lib.ListN.{length, take, drop, set, length-map}
+use Rattle.model.specs.Lists.{splice, All, sum}
 use Rattle.model.specs.Layout.{mostEntries}
 use Rattle.model.specs.Tree.{Tree, Shaped, Entry, times}
-use Rattle.model.specs.Page.{childrenOf, readTree, Heights, Holds}
+use Rattle.model.specs.Page.{childrenOf, readTree, Heights}
+use Rattle.model.specs.Standing.{Stands, rootOf, Standing}
 use Rattle.model.proofs.Cases.{same-self}
-use Rattle.model.proofs.Lists.{all-map, all-image, all-any, all-both}
-use Rattle.model.proofs.Read.{length-children, length-own, mapNode}
-
--- ---- a tree that stands in pages
-
--- the number of the root's page plus 1; 0 where there is none
-abbrev pub rootOf : (h : ℕ) → Tree h → ℕ
-rootOf zero t = 0
-rootOf (suc h) t = suc (t .page)
+use Rattle.model.proofs.Lists.{splice-one, all-append, all-take, all-drop, all-map, all-image, all-any, all-both}
+use Rattle.model.proofs.Read.{length-children, length-own}
 
 module _ (m : ℕ) (pages : ℕ → List ℕ) where
-  -- what the words of the root's page say
-  abbrev pub Stands : (h : ℕ) → Tree (suc h) → Type 0
-  Stands h t = Holds (mostEntries m) h (mapNode (λ c. pred (rootOf h c)) t) (pages (t .page))
-
-  -- so of each page of the tree
-  unfoldable pub Standing : (h : ℕ) → Tree h → Type 0
-  Standing zero t = Unit {0}
-  Standing (suc h) t = Stands h t × All (Standing h) (t .children)
-
   -- the root's word, 0 where there are no levels
   pub read-root : (h r : ℕ) → (h ≡ 0 → r ≡ 0) → (0 < h → 0 < r) → r ≡ rootOf h (readTree m pages h (pred r))
   unfolding readTree
@@ -42,13 +27,13 @@ module _ (m : ℕ) (pages : ℕ → List ℕ) where
   read-roots h (p ∷ ps) l = ap₂ _∷_ (ap pred (read-root h (suc p) (λ z. omega arith) (λ l. omega arith))) (read-roots h ps l)
 
   -- the tree that was read stands there
-  pub read-standing : (h p : ℕ) → Heights m pages h p → Standing h (readTree m pages h p)
+  pub read-standing : (h p : ℕ) → Heights m pages h p → Standing m pages h (readTree m pages h p)
   unfolding readTree Heights Standing
   read-standing zero p k = tt
   read-standing (suc h) p k =
       let ps = childrenOf (mostEntries m) (pages p) in (
         record { height = k .0; own = refl; children = read-roots h ps },
-        all-image (readTree m pages h) (Standing h) ps (all-map (Heights m pages h) (λ q. Standing h (readTree m pages h q)) ps (read-standing h) (k .1)),
+        all-image (readTree m pages h) (Standing m pages h) ps (all-map (Heights m pages h) (λ q. Standing m pages h (readTree m pages h q)) ps (read-standing h) (k .1)),
       )
 
 -- ---- and the tree that stands there is read
@@ -115,3 +100,20 @@ module _ (m : ℕ) (pages pages′ : ℕ → List ℕ) where
         record { height = rw (← here) (a .0 .height); own = rw (← here) (a .0 .own); children = λ l. rw (← here) (a .0 .children l) },
         all-frame h (standing-frame h) (t .children) (λ q l. e q (omega arith)) (a .1),
       )
+
+  pub all-standing : (h : ℕ) (ts : List (Tree h)) → ((q : ℕ) → 0 < sum (times q h) ts → pages q ≡ pages′ q) → All (Standing m pages h) ts → All (Standing m pages′ h) ts
+  all-standing h ts = all-frame h (standing-frame h) ts
+
+  -- trees with some in the place of one of them
+  pub splice-standing : (h i : ℕ) (cs ts : List (Tree h)) → ((q : ℕ) → 0 < sum (times q h) (take i ts) + sum (times q h) (drop (suc i) ts) → pages q ≡ pages′ q)
+      → All (Standing m pages h) ts → All (Standing m pages′ h) cs → All (Standing m pages′ h) (splice i cs ts)
+  splice-standing h i cs ts e a new =
+      all-append (Standing m pages′ h) (take i ts) (cs ++ drop (suc i) ts)
+      (all-standing h (take i ts) (λ q l. e q (omega arith)) (all-take (Standing m pages h) i ts a))
+      (all-append (Standing m pages′ h) cs (drop (suc i) ts) new
+      (all-standing h (drop (suc i) ts) (λ q l. e q (omega arith)) (all-drop (Standing m pages h) (suc i) ts a)))
+
+  pub set-standing : (h i : ℕ) (c : Tree h) (ts : List (Tree h)) → i < length ts
+      → ((q : ℕ) → 0 < sum (times q h) (take i ts) + sum (times q h) (drop (suc i) ts) → pages q ≡ pages′ q)
+      → All (Standing m pages h) ts → Standing m pages′ h c → All (Standing m pages′ h) (set ts i c)
+  set-standing h i c ts b e a new = subst (All (Standing m pages′ h)) (splice-one i c ts b) (splice-standing h i (c ∷ []) ts e a (new, tt))

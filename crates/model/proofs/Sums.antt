@@ -1,14 +1,15 @@
 -- Laws of sums: of a number for each element of a list (`sum`), and of a number for each place below n (`sumTo`).
 -- Assumes nothing.
 use mathlib.Core.Path.{_≡_, refl, sym, ap, ap₂, _∙_}
+use mathlib.Core.Logic.{_≢_}
 use mathlib.Core.List.{List, [], _∷_, _++_}
 use Prim.Native.Nat.{ℕ, zero, suc, _+_, _*_, _≤_, _<_}
 use native.Mathlib.Nat.{zero-add, add-zero, add-suc, zero-mul, mul-zero}
 use native.Mathlib.Omega.{arith}
-use lib.ListN.{length, take, drop, getD, set, take-append-drop}
+use lib.ListN.{length, take, drop, getD, set, take-append-drop, drop-of-length-le}
 use lib.Seq.{split-at, set-split}
-use Rattle.model.specs.Lists.{splice, sum, sumTo, same, All}
-use Rattle.model.proofs.Cases.{either-eq, same-eq, same-other, same-le, either-lt}
+use Rattle.model.specs.Lists.{splice, tab, sum, sumTo, same, All}
+use Rattle.model.proofs.Cases.{either-eq, same-eq, same-other, same-le, same-zero, either-lt}
 
 -- ---- over a list
 
@@ -20,6 +21,11 @@ module _ {A : Type 0} where
   -- the sum as the parts before, at and after element i
   pub sum-at : (f : A → ℕ) (l : List A) (i : ℕ) (d : A) → i < length l → sum f l ≡ sum f (take i l) + (f (getD l i d) + sum f (drop (suc i) l))
   sum-at f l i d h = ap (sum f) (split-at l i d h) ∙ sum-append f (take i l) (getD l i d ∷ drop (suc i) l)
+
+  pub sum-single : (f : A → ℕ) (l : List A) (d : A) → length l ≡ 1 → sum f l ≡ f (getD l 0 d)
+  sum-single f l d e =
+      let none : drop 1 l ≡ [] = drop-of-length-le l {i = 1} (omega arith) in
+      omega (arith, sum-at f l 0 d (omega arith), ap (sum f) none)
 
   pub sum-cut : (f : A → ℕ) (n : ℕ) (l : List A) → sum f (take n l) + sum f (drop n l) ≡ sum f l
   sum-cut f n l = sym (sum-append f (take n l) (drop n l)) ∙ ap (sum f) (take-append-drop n l)
@@ -93,6 +99,17 @@ sumTo-once f (suc n) p rise =
     either-eq p (f n)
     (λ e. omega (arith, same-le p (f n), sumTo-none (λ i. same p (f i)) n (λ i l. same-other p (f i) (omega (arith, rise i n l (omega arith))))))
     (λ ne. omega (arith, same-other p (f n) ne, sumTo-once f n p (λ j k l m. rise j k l (omega arith))))
+
+-- of numbers in a table
+pub sum-tab : (f g : ℕ → ℕ) (n : ℕ) → sum f (tab n g) ≡ sumTo (λ i. f (g i)) n
+unfolding sumTo
+sum-tab f g zero = refl
+sum-tab f g (suc n) = omega (arith, sum-tab f (λ k. g (suc k)) n, sumTo-front (λ i. f (g i)) n)
+
+-- not among them
+pub all-apart : (q : ℕ) (ps : List ℕ) → sum (same q) ps ≡ 0 → All (λ p. q ≢ p) ps
+all-apart q [] z = tt
+all-apart q (p ∷ ps) z = (same-zero q p (omega arith), all-apart q ps (omega arith))
 
 -- how often q is among the numbers below n
 pub sumTo-apart : (q n : ℕ) → n ≤ q → sumTo (λ p. same p q) n ≡ 0

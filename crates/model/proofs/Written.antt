@@ -3,58 +3,29 @@
 -- Assumes nothing.
 use mathlib.Core.Path.{_≡_, sym, ap, _∙_, refl}
 use mathlib.Core.Bool.{cond, true}
-use mathlib.Core.List.{List, [], _∷_}
+use mathlib.Core.List.{List}
 use Prim.Native.Nat.{ℕ, zero, suc, pred, _≤_, _<_}
 use native.Mathlib.Omega.{arith}
 use lib.Dec.{eqb}
 use lib.ListN.{length, getD}
 use borrow.Author.Tests.{eq-eqb, ne-eqb}
 use Rattle.model.specs.Lists.{tab}
-use Rattle.model.specs.Layout.{least, word, firstWord, pagesIn, headWords}
+use Rattle.model.specs.Layout.{least, word, pagesIn}
 use Rattle.model.specs.Head.{countWord, rootWord, levelsWord, openWord, afterWord, keyWord}
-use Rattle.model.specs.PageMap.{bitAt, mapOf}
-use Rattle.model.specs.Tree.{Entry, noEntry, held, Rising, Formed, Tree, meets, entries, times, Shaped, size}
+use Rattle.model.specs.Tree.{Entry, held, Rising, Formed, Tree, meets, entries, times, Shaped, size}
 use Rattle.model.specs.Page.{pageOf}
+use Rattle.model.specs.Standing.{Standing, rootOf}
 use Rattle.model.specs.Entries.{Cursor, shut, gap, gapAfter, has}
 use Rattle.model.specs.Pool.{Pool, heldBy, wholeOf, cursorOf, poolOf, gapIn}
 use Rattle.model.specs.Sound.{Sound}
+use Rattle.model.specs.Written.{openIn, headOf, Written, afterIn, keyIn}
 use Rattle.model.proofs.Cases.{either-eq, either-lt, same-self}
 use Rattle.model.proofs.Lists.{getD-tab}
 use Rattle.model.proofs.Head.{HeadFacts, head-facts, head-fits}
 use Rattle.model.proofs.Entries.{has-key, gap-after-has, gap-after-entry, has-entry}
 use Rattle.model.proofs.Gap.{size-some}
-use Rattle.model.proofs.Standing.{Standing, rootOf, read-root, read-standing, standing-read, standing-heights}
+use Rattle.model.proofs.Standing.{read-root, read-standing, standing-read, standing-heights}
 use Rattle.model.proofs.Right.{Right, right-full, right-pages, right-levels}
-
--- ---- the head's words, by what the pool holds
-
--- words 5, 6 and 7
-abbrev pub openIn : Cursor → ℕ
-openIn shut = 0
-openIn (gap g) = 1
-
-abbrev pub afterIn : Cursor → ℕ
-afterIn shut = 0
-afterIn (gap zero) = 0
-afterIn (gap (suc g)) = 1
-
-abbrev pub keyIn : List Entry → Cursor → ℕ
-keyIn es shut = 0
-keyIn es (gap zero) = 0
-keyIn es (gap (suc g)) = getD es g noEntry .key
-
--- words 0 to 8; those after them are 0
-abbrev pub headOf : Pool → List ℕ
-headOf p =
-    1 ∷ p .pages ∷ length (heldBy p) ∷ rootOf (p .whole .levels) (p .whole .tree) ∷ p .whole .levels
-    ∷ openIn (p .cursor) ∷ afterIn (p .cursor) ∷ keyIn (heldBy p) (p .cursor) ∷ p .kind ∷ []
-
-pub record Written (w : List ℕ) (p : Pool) : Type 0 where
-  pub long : length w ≡ firstWord (p .pages)
-  pub head : tab 9 (word w) ≡ headOf p
-  pub spare : (i : ℕ) → 9 ≤ i → i < headWords → word w i ≡ 0
-  pub bits : (q : ℕ) → bitAt (mapOf w) q ≡ meets q (p .whole)
-  pub stands : Standing least (pageOf w) (p .whole .levels) (p .whole .tree)
 
 -- ---- a sound pool's words
 

@@ -2,7 +2,7 @@
 -- "A head fits when all this holds of its numbers": one line a sentence, in the paper's order.
 -- Assumes nothing: these are definitions.
 use mathlib.Core.Bool.{Bool, false, not, cond}
-use mathlib.Core.List.{List, _∷_, map}
+use mathlib.Core.List.{List, [], _∷_, _++_, map}
 use Prim.Native.Nat.{ℕ, _+_, _*_, _-_}
 use lib.Dec.{leb, eqb}
 use lib.ListN.{length}
@@ -42,8 +42,8 @@ abbrev pub spareWords : List ℕ → List ℕ
 spareWords w = tab (headWords - 9) (λ i. word w (9 + i))
 
 -- of a head in a pool of P pages; a set's word 5 is 0, so the two are not both 1; words 2, 3 and 4 are all zero or all nonzero
-abbrev pub headTests : ℕ → List ℕ → List Bool
-headTests P w =
+abbrev pub numberTests : ℕ → List ℕ → List Bool
+numberTests P w =
     eqb (word w 0) 1
     ∷ eqb (word w 1) P
     ∷ leb (countWord w) (mostEntries least * P)
@@ -55,7 +55,11 @@ headTests P w =
     ∷ leb (kindWord w + openWord w) 1
     ∷ bothOrNeither (countWord w) (rootWord w)
     ∷ bothOrNeither (countWord w) (levelsWord w)
-    ∷ map (λ x. eqb x 0) (spareWords w)
+    ∷ []
+
+-- and words 9 to 31 are 0
+abbrev pub headTests : ℕ → List ℕ → List Bool
+headTests P w = numberTests P w ++ map (λ x. eqb x 0) (spareWords w)
 
 unfoldable pub fits : List ℕ → Bool
 fits w = every (headTests (pagesIn (length w)) w)

@@ -6,6 +6,7 @@ pub mod Head
 pub mod PageMap
 pub mod Tree
 pub mod Page
+pub mod Standing
 -- the list model, which is what the source speaks of
 pub mod Bound
 pub mod Entries
@@ -18,6 +19,7 @@ pub mod Write
 -- what a sound pool holds, and when a pool is sound
 pub mod Pool
 pub mod Sound
+pub mod Written
 pub mod Alike
 -- "Numbers a caller can be given", and "The calls"
 pub mod Refusal

@@ -8,7 +8,7 @@ use Prim.Native.Nat.{ℕ, zero, suc, _+_, _-_, _≤_, _<_}
 use native.Mathlib.Numerals.{add-one}
 use native.Mathlib.Omega.{arith}
 use lib.Dec.{ltb}
-use lib.ListN.{length, take, drop, getD, set, length-append, length-take, length-drop, drop-of-length-le, take-append-drop}
+use lib.ListN.{length, take, drop, getD, set, drop-of-length-le, take-append-drop}
 use lib.Seq.{drop-cons}
 use borrow.Author.Tests.{lt-ltb, le-ltb}
 use Rattle.model.specs.Lists.{ins, del}
@@ -67,9 +67,6 @@ module _ {A : Type 0} where
       let front : take n s ≡ del at s₀ =
       ap (λ (k : ℕ). take k s) (sym hi) ∙ sym (append-nil (take i s)) ∙ ap (λ (r : List A). take i s ++ r) (sym (drop-of-length-le s short)) ∙ e in
       sym (take-append-drop n s) ∙ ap (λ (r : List A). r ++ drop n s) front ∙ ap (λ (r : List A). del at s₀ ++ r) last
-
-  pub length-del : (i : ℕ) (xs : List A) → i < length xs → suc (length (del i xs)) ≡ length xs
-  length-del i xs h = simp (length-append, length-take, length-drop) (omega arith)
 
 -- ---- the place of a key
 

@@ -54,22 +54,22 @@ module _ {p h : ℕ} {w₀ w : List ℕ} (y : Node ℕ) (forks : length (y .chil
 -- ---- a neighbour's entries behind a page
 
 -- what page l is to hold once the entry between has been put behind it: page r's first child came with that entry
-abbrev pub behind : List ℕ → ℕ → ℕ → Node ℕ
-behind w l r = record {
+abbrev pub chained : List ℕ → ℕ → ℕ → Node ℕ
+chained w l r = record {
   page = l;
   own = entriesOf most (pageOf w l) ++ entriesOf most (pageOf w r);
   children = childrenOf most (pageOf w l) ++ drop 1 (childrenOf most (pageOf w r));
 }
 
 abbrev pub Joining : ℕ → ℕ → ℕ → List ℕ → List ℕ → Type 0
-Joining l r n w w′ = Copied l (heightOf (pageOf w l)) (behind w l r) n w w′
+Joining l r n w w′ = Copied l (heightOf (pageOf w l)) (chained w l r) n w w′
 
 module _ (w : List ℕ) (l r n : ℕ) (many : countOf (pageOf w l) ≡ n + 1) where
-  behind-own : length (behind w l r .own) ≡ n + 1 + countOf (pageOf w r)
-  behind-own = simp (length-append, length-own) (omega arith)
+  chained-own : length (chained w l r .own) ≡ n + 1 + countOf (pageOf w r)
+  chained-own = simp (length-append, length-own) (omega arith)
 
-  behind-forks : length (behind w l r .children) ≡ suc (length (behind w l r .own))
-  behind-forks = simp (length-append, length-drop, length-own, length-children) (omega arith)
+  chained-forks : length (chained w l r .children) ≡ suc (length (chained w l r .own))
+  chained-forks = simp (length-append, length-drop, length-own, length-children) (omega arith)
 
   pub joining-none : Joining l r (n + 1 + 0) w w
   joining-none =
@@ -87,16 +87,16 @@ module _ (w : List ℕ) (l r n : ℕ) (many : countOf (pageOf w l) ≡ n + 1) wh
       let step : n + 1 + (j + 1) ≡ suc (n + 1 + j) = omega arith in
       let next : j + 1 ≡ 1 + j = omega arith in
       let same : pageOf w₁ r ≡ pageOf w r = k .only .others r ((λ q. apart (sym q)), tt) in
-      let own : x ≡ getD (behind w l r .own) (n + 1 + j) noEntry =
+      let own : x ≡ getD (chained w l r .own) (n + 1 + j) noEntry =
       rw same at ex ∙ own-at (pageOf w r) j inside
       ∙ sym (at-behind (entriesOf most (pageOf w l)) (entriesOf most (pageOf w r)) j (n + 1 + j) noEntry (omega (arith, length-own most (pageOf w l)))) in
-      let child : c ≡ getD (behind w l r .children) (suc (n + 1 + j)) 0 =
+      let child : c ≡ getD (chained w l r .children) (suc (n + 1 + j)) 0 =
       rw (same, next) at ec ∙ child-at (pageOf w r) (1 + j) (omega arith) ∙ sym (getD-drop 1 (childrenOf most (pageOf w r)) j 0)
       ∙ sym (at-behind (childrenOf most (pageOf w l)) _ j (suc (n + 1 + j)) 0 (omega (arith, length-children most (pageOf w l)))) in
-      rw step (copied-more (behind w l r) behind-forks (n + 1 + j) (n + 1 + j) (n + 2 + j) x c (omega (arith, behind-own)) (omega arith) room refl (omega arith) own child k d)
+      rw step (copied-more (chained w l r) chained-forks (n + 1 + j) (n + 1 + j) (n + 2 + j) x c (omega (arith, chained-own)) (omega arith) room refl (omega arith) own child k d)
 
-  joining-all : {w₁ : List ℕ} (j : ℕ) → countOf (pageOf w r) ≤ j → Joining l r (n + 1 + j) w w₁ → Becomes l (behind w l r) w w₁
-  joining-all j past k = copied-all (behind w l r) behind-forks (n + 1 + j) (omega (arith, behind-own)) k
+  joining-all : {w₁ : List ℕ} (j : ℕ) → countOf (pageOf w r) ≤ j → Joining l r (n + 1 + j) w w₁ → Becomes l (chained w l r) w w₁
+  joining-all j past k = copied-all (chained w l r) chained-forks (n + 1 + j) (omega (arith, chained-own)) k
 
 -- the entry e between them and page r's first child have been put behind page l: what the loop starts with, and what its end will be
 pub record Begun (l r n m : ℕ) (e : Entry) (w w₁ : List ℕ) : Type 0 where
@@ -126,7 +126,7 @@ begins w l r n m e c {w₁} apart en em some few first d =
       many = count;
       rest = rw same (sym em);
       end = λ w₂ j past k.
-          let all : Becomes l (behind w₁ l r) w₁ w₂ = joining-all w₁ l r n count j (rw (same, ← em) past) k in (
+          let all : Becomes l (chained w₁ l r) w₁ w₂ = joining-all w₁ l r n count j (rw (same, ← em) past) k in (
             record {
               height = all .height ∙ held .height;
               own = all .own ∙ ap₂ _++_ (held .own) (ap (entriesOf most) same) ∙ ins-behind n e es (entriesOf most (pageOf w r)) own;

@@ -1,0 +1,266 @@
+-- Words of the head stored: neither the map nor a page changes, and the head's other words are as they were. The root's two words, 3 and 4: a new
+-- root, and a root that is freed. And the head's tests, one after the other, and what a head that fits says of the pool.
+-- Assumes nothing.
+use mathlib.Core.Path.{_≡_, refl, sym, ap, ap₂, _∙_, subst, subst₂}
+use mathlib.Core.Bool.{Bool, true, false, cond}
+use mathlib.Core.Logic.{_≢_}
+use mathlib.Core.List.{List, [], _∷_, map}
+use Prim.Native.Nat.{ℕ, suc, _+_, _-_, _*_, _≤_, _<_}
+use native.Mathlib.Nat.{add-zero}
+use native.Mathlib.Numerals.{add-one}
+use native.Mathlib.Omega.{arith}
+use lib.Bits.{bitOr, or-zero-l, or-add-and, and-le-r}
+use lib.Dec.{eqb}
+use lib.ListN.{length, take, drop, set, length-set}
+use lib.Seq.{drop-drop, drop-set-lt, getD-set-same, getD-set-other}
+use borrow.Author.Tests.{leb-true, eqb-true, ne-eqb}
+use Rattle.model.specs.Lists.{tab, every}
+use Rattle.model.specs.Layout.{headWords, mapWords, pageWords, mostPages, firstWord, pagesIn, lengthTests, allowed, word, mostLevels}
+use Rattle.model.specs.Head.{spareWords, numberTests, fits, headed, countWord, rootWord, levelsWord}
+use Rattle.model.specs.PageMap.{mapOf}
+use Rattle.model.specs.Tree.{Entry}
+use Rattle.model.specs.Page.{pageOf, countOf, Holds}
+use Rattle.pagemap.specs.declared.Lowest.{Lowest}
+use Rattle.pagemap.specs.declared.Lowest.the-variants as lowest
+use Rattle.pagemap.specs.Bits.{clearBit}
+use Rattle.pagemap.specs.Lowest.{firstOf, took}
+use Rattle.page.specs.Node.{alone}
+use Rattle.tree.specs.declared.search.Below.{Below}
+use Rattle.tree.specs.declared.search.Below.the-variants as below
+use Rattle.tree.specs.Pages.{most, Inside, OnlyPages}
+use Rattle.tree.specs.Sits.{MapBecomes, Sized}
+use Rattle.tree.specs.Search.{belowOf}
+use Rattle.tree.specs.Insert.{freesIn, Rooted, Tops, NewRoots}
+use Rattle.tree.specs.Remove.{Lowered, Lowers}
+use Rattle.model.proofs.Cases.{either-eq}
+use Rattle.model.proofs.Lists.{every-true, tab-ext, every-append, every-then, every-one}
+use Rattle.model.proofs.Head.{head-facts}
+use Rattle.pagemap.proofs.Taking.{lowest-is}
+use Rattle.tree.proofs.Sitting.{page-inside}
+use Rattle.tree.proofs.Searching.{no-page}
+use Rattle.tree.proofs.Touching.{only-map, only-word, touches-word}
+
+-- ---- a store in the head
+
+-- no word behind the head is changed
+pub record HeadOnly (w w′ : List ℕ) : Type 0 where
+  pub long : length w′ ≡ length w
+  pub rest : drop headWords w′ ≡ drop headWords w
+
+pub head-map : {w w′ : List ℕ} → HeadOnly w w′ → mapOf w′ ≡ mapOf w
+unfolding mapOf
+head-map c = ap (take mapWords) (c .rest)
+
+pub head-page : {w w′ : List ℕ} → HeadOnly w w′ → (p : ℕ) → pageOf w′ p ≡ pageOf w p
+unfolding pageOf
+head-page {w} {w′} c p =
+    let n : ℕ = mapWords + pageWords * p in
+    let e : firstWord p ≡ headWords + n = omega arith in
+    ap (take pageWords)
+    (ap (λ (k : ℕ). drop k w′) e ∙ sym (drop-drop n headWords w′) ∙ ap (drop n) (c .rest) ∙ drop-drop n headWords w ∙ ap (λ (k : ℕ). drop k w) (sym e))
+
+pub head-then : {w w₁ w₂ : List ℕ} → HeadOnly w w₁ → HeadOnly w₁ w₂ → HeadOnly w w₂
+head-then c d = record { long = d .long ∙ c .long; rest = d .rest ∙ c .rest }
+
+module _ (w : List ℕ) (i v : ℕ) where
+  pub head-stored : i < headWords → HeadOnly w (set w i v)
+  head-stored h = record { long = length-set w i v; rest = drop-set-lt headWords w i v h }
+
+  -- the word stored, and the others
+  pub stored-word : i < length w → word (set w i v) i ≡ v
+  stored-word h = getD-set-same w i v 0 h
+
+  pub other-word : (j : ℕ) → j ≢ i → word (set w i v) j ≡ word w j
+  other-word j n = getD-set-other w i j v 0 n
+
+-- ---- words 3 and 4
+
+-- what leaves the head alone may come before or after
+pub rooted-then : {r h : ℕ} {w w₁ w₂ : List ℕ} → Rooted r h w w₁ → ((i : ℕ) → i < headWords → word w₂ i ≡ word w₁ i) → Rooted r h w w₂
+rooted-then c same = record {
+  root = same 3 (omega arith) ∙ c .root;
+  levels = same 4 (omega arith) ∙ c .levels;
+  others = λ i h n m. same i h ∙ c .others i h n m;
+}
+
+pub then-rooted : {r h : ℕ} {w w₁ w₂ : List ℕ} → ((i : ℕ) → i < headWords → word w₁ i ≡ word w i) → Rooted r h w₁ w₂ → Rooted r h w w₂
+then-rooted same c = record { root = c .root; levels = c .levels; others = λ i h n m. c .others i h n m ∙ same i h }
+
+-- the words with r and h stored there
+abbrev pub rootedAs : ℕ → ℕ → List ℕ → List ℕ
+rootedAs r h w = set (set w 3 r) 4 h
+
+module _ (w : List ℕ) (r h : ℕ) where
+  pub rooted-head : HeadOnly w (rootedAs r h w)
+  rooted-head = head-then (head-stored w 3 r (omega arith)) (head-stored (set w 3 r) 4 h (omega arith))
+
+  pub rooted-stored : headWords ≤ length w → Rooted r h w (rootedAs r h w)
+  rooted-stored b = record {
+    root = other-word (set w 3 r) 4 h 3 (omega arith) ∙ stored-word w 3 r (omega arith);
+    levels = stored-word (set w 3 r) 4 h (omega (arith, length-set w 3 r));
+    others = λ i _ n m. other-word (set w 3 r) 4 h i m ∙ other-word w 3 r i n;
+  }
+
+-- ---- a new root
+
+-- the lowest free page lies inside
+pub lowest-inside : (w w′ : List ℕ) (q : ℕ) → firstOf (freesIn w) ≡ lowest.Page q → length w′ ≡ length w → Inside q w′
+lowest-inside w w′ q first long = omega (arith, lowest-is (mapOf w) _ q first)
+
+module _ (levels : ℕ) (e : Entry) (l r : ℕ) {w w₁ : List ℕ} where
+  -- no page is free
+  pub roots-none : {a : Lowest} → a ≡ firstOf (freesIn w) → a ≡ lowest.None → MapBecomes (took (mapOf w) a) w w₁ → NewRoots levels e l r w w₁
+  roots-none first none m = record {
+    long = m .keeps .long;
+    count = touches-word (m .keeps) 2 (omega arith);
+    tops = λ q is. let z : _≡_ {A = ℕ} 0 1 = cc in absurd (omega arith);
+  }
+
+  -- page q is taken, then written, and then named by the head
+  pub roots-done : {w₂ : List ℕ} {a : Lowest} (q : ℕ) → headWords ≤ length w → a ≡ firstOf (freesIn w) → a ≡ lowest.Page q → MapBecomes (took (mapOf w) a) w w₁
+      → Holds most levels (alone e l r) (pageOf w₂ q) → OnlyPages (q ∷ []) w₁ w₂ → NewRoots levels e l r w (rootedAs (q + 1) (levels + 1) w₂)
+  roots-done {w₂} {a} q b first is m holds o =
+      let long : length w₂ ≡ length w = o .long ∙ m .keeps .long in
+      let w₃ : List ℕ = rootedAs (q + 1) (levels + 1) w₂ in
+      let head : HeadOnly w₂ w₃ = rooted-head w₂ (q + 1) (levels + 1) in
+      let same : (i : ℕ) → i < headWords → word w₂ i ≡ word w i = λ i h. only-word o i h ∙ touches-word (m .keeps) i h in
+      let rooted : Rooted (q + 1) (levels + 1) w w₃ = then-rooted same (rooted-stored w₂ (q + 1) (levels + 1) (omega arith)) in
+      let tops : Tops q levels e l r w w₃ = record {
+        holds = rw (head-page head q) holds;
+        rooted = subst₂ (λ (x y : ℕ). Rooted x y w w₃) (add-one q) (add-one levels) rooted;
+        map = head-map head ∙ only-map o ∙ m .map ∙ ap (took (mapOf w)) is;
+        others = λ p n. head-page head p ∙ o .others p (n, tt) ∙ m .keeps .others p tt;
+      } in
+      record {
+        long = head .long ∙ long;
+        count = rooted .others 2 (omega arith) (omega arith) (omega arith);
+        tops = λ p here. let z : q ≡ p = cc in subst (λ (x : ℕ). Tops x levels e l r w w₃) z tops;
+      }
+
+-- ---- a root that is freed
+
+pub lowered : {w w′ : List ℕ} (r h old : ℕ) → headWords ≤ length w
+    → MapBecomes (clearBit (mapOf (rootedAs r h w)) old) (rootedAs r h w) w′ → Lowered r h old w w′
+lowered {w} {w′} r h old b m =
+    let head : HeadOnly w (rootedAs r h w) = rooted-head w r h in
+    record {
+      rooted = rooted-then (rooted-stored w r h b) (touches-word (m .keeps));
+      map = m .map ∙ ap (λ (l : List ℕ). clearBit l old) (head-map head);
+      others = λ p. m .keeps .others p tt ∙ head-page head p;
+    }
+
+module _ (w : List ℕ) (old levels : ℕ) where
+  pub lowers-not : 1 ≤ countOf (pageOf w old) → Lowers old levels w w
+  lowers-not some = record {
+    long = refl;
+    count = refl;
+    stays = λ _. refl;
+    empties = λ none _. absurd (omega arith);
+    lowers = λ none _ c _. absurd (omega arith);
+  }
+
+  pub lowers-unsound : {a : Below} → levels ≢ 1 → a ≡ belowOf w old 0 → a ≡ below.Unsound → Lowers old levels w w
+  lowers-unsound two is none = record {
+    long = refl;
+    count = refl;
+    stays = λ _. refl;
+    empties = λ _ one. absurd (two one);
+    lowers = λ _ _ c here. no-page none (is ∙ here);
+  }
+
+  pub lowers-done : {w′ : List ℕ} (r h : ℕ) → countOf (pageOf w old) ≡ 0 → headWords ≤ length w → MapBecomes (clearBit (mapOf (rootedAs r h w)) old) (rootedAs r h w) w′
+      → (levels ≡ 1 → (r ≡ 0) × (h ≡ 0)) → (2 ≤ levels → (c : ℕ) → belowOf w old 0 ≡ below.Page c → (r ≡ suc c) × (h ≡ levels - 1)) → Lowers old levels w w′
+  lowers-done {w′} r h none b m one more =
+      let done : Lowered r h old w w′ = lowered r h old b m in
+      let to : (x y : ℕ) → (r ≡ x) × (h ≡ y) → Lowered x y old w w′ = λ x y e. subst₂ (λ (x y : ℕ). Lowered x y old w w′) (e .0) (e .1) done in
+      record {
+        long = m .keeps .long ∙ rooted-head w r h .long;
+        count = done .rooted .others 2 (omega arith) (omega arith) (omega arith);
+        stays = λ some. absurd (omega arith);
+        empties = λ _ e. to 0 0 (one e);
+        lowers = λ _ l c here. to (suc c) (levels - 1) (more l c here);
+      }
+
+-- ---- tests
+
+cond-both : (a b c : Bool) → cond (cond a b false) c false ≡ cond a (cond b c false) false
+cond-both true b c = refl
+cond-both false b c = refl
+
+-- ---- the spare words, ORed
+
+pub or-zero : (a b : ℕ) → eqb (bitOr a b) 0 ≡ cond (eqb a 0) (eqb b 0) false
+or-zero a b =
+    either-eq a 0
+    (λ e. rw (e, or-zero-l b))
+    (λ n. rw (ne-eqb a 0 n) (ne-eqb (bitOr a b) 0 (λ z. omega (arith, or-add-and a b, and-le-r a b))))
+
+abbrev zeros : ℕ → (ℕ → ℕ) → Bool
+zeros n f = every (map (λ x. eqb x 0) (tab n f))
+
+-- what is left of the test once the words before i are ORed
+unfoldable pub spareLeft : List ℕ → ℕ → ℕ → Bool
+spareLeft w all i = cond (eqb all 0) (zeros (headWords - i) (λ k. word w (i + k))) false
+
+module _ (w : List ℕ) where
+  pub spare-begins : spareLeft w 0 9 ≡ every (map (λ x. eqb x 0) (spareWords w))
+  unfolding spareLeft
+  spare-begins = refl
+
+  pub spare-turn : (all i : ℕ) → i < headWords → spareLeft w (bitOr all (word w i)) (i + 1) ≡ spareLeft w all i
+  unfolding spareLeft
+  spare-turn all i h =
+      let n : ℕ = headWords - (i + 1) in
+      let e : headWords - i ≡ suc n = omega arith in
+      rw (e, or-zero all (word w i))
+      (cond-both (eqb all 0) (eqb (word w i) 0) (zeros n (λ k. word w (i + 1 + k)))
+      ∙ ap₂ (λ (x : ℕ) (l : List ℕ). cond (eqb all 0) (cond (eqb x 0) (every (map (λ x. eqb x 0) l)) false) false)
+      (ap (word w) (sym (add-zero i)))
+      (tab-ext n (λ k. word w (i + 1 + k)) (λ k. word w (i + suc k)) (λ k. ap (word w) (omega arith))))
+
+  pub spare-ends : (all : ℕ) → spareLeft w all headWords ≡ eqb all 0
+  unfolding spareLeft
+  spare-ends all = every-one (eqb all 0)
+
+-- ---- the head as it is tested
+
+pub allowed-facts : (n : ℕ) → allowed n ≡ true → (1 ≤ pagesIn n) × (pagesIn n ≤ mostPages) × (n ≡ firstWord (pagesIn n))
+unfolding allowed
+allowed-facts n e = let t = every-true (lengthTests n) e in (leb-true _ _ (t .0), leb-true _ _ (t .1 .0), eqb-true _ _ (t .1 .1 .0))
+
+module _ (w : List ℕ) where
+  -- the length is not allowed
+  pub headed-no : allowed (length w) ≡ false → headed w ≡ false
+  unfolding headed
+  headed-no no-length = rw no-length
+
+  module _ (long : allowed (length w) ≡ true) where
+    -- a number does not fit
+    pub headed-not : every (numberTests (pagesIn (length w)) w) ≡ false → headed w ≡ false
+    unfolding headed fits
+    headed-not fails = rw long (every-append (numberTests (pagesIn (length w)) w) (map (λ x. eqb x 0) (spareWords w)) ∙ rw fails)
+
+    -- the spare words decide
+    pub headed-is : every (numberTests (pagesIn (length w)) w) ≡ true → headed w ≡ every (map (λ x. eqb x 0) (spareWords w))
+    unfolding headed fits
+    headed-is holds = rw long (every-then (numberTests (pagesIn (length w)) w) (map (λ x. eqb x 0) (spareWords w)) holds)
+
+-- ---- a head that fits
+
+module _ (w : List ℕ) (e : headed w ≡ true) where
+  -- there is room for the map, and for a page
+  pub headed-sized : Sized w
+  headed-sized = let f = head-facts w e in omega (arith, f .long, f .most)
+
+  pub head-long : firstWord 1 ≤ length w
+  head-long = let f = head-facts w e in omega (arith, f .long, f .some)
+
+  pub head-levels : levelsWord w ≤ mostLevels
+  head-levels = head-facts w e .levels
+
+  -- where there are levels there is a root, inside the pool
+  pub head-root : 0 < levelsWord w → (0 < rootWord w) × Inside (rootWord w - 1) w
+  head-root l =
+      let f = head-facts w e in
+      let some : 0 < rootWord w = either-eq (countWord w) 0 (λ z. absurd (omega (arith, f .rooted .0 z .1))) (λ n. f .rooted .1 (omega arith) .0) in
+      (some, page-inside w (rootWord w - 1) (omega (arith, f .root)))

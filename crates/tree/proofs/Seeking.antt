@@ -1,0 +1,222 @@
+-- Seek, page by page: one law for each way in which the search of a page ends, with the slices that it fills; and the path found in a whole pool.
+-- Assumes nothing.
+use mathlib.Core.Path.{_≡_, refl, sym, ap, ap₂, subst, _∙_}
+use mathlib.Core.Bool.{Bool, true, false}
+use mathlib.Core.List.{List, [], _∷_, _++_, append-nil}
+use Prim.Native.Nat.{ℕ, zero, suc, pred, _-_, _<_}
+use native.Mathlib.Omega.{arith}
+use lib.ListN.{length, take, drop, getD, set, length-set, drop-of-length-le}
+use lib.Seq.{take-all}
+use Rattle.model.specs.Layout.{least}
+use Rattle.model.specs.Head.{rootWord, levelsWord}
+use Rattle.model.specs.Tree.{Tree, entries, Rising, held, Formed}
+use Rattle.model.specs.Standing.{rootOf, numberOf}
+use Rattle.model.specs.Entries.{lookup, gapOf}
+use Rattle.model.specs.Gap.{gapPages, gapSlots, seekPages, seekSlots, find}
+use Rattle.model.specs.Pool.{heldBy, wholeOf, poolOf}
+use Rattle.model.specs.Sound.{Sound}
+use Rattle.model.specs.MapCalls.{pagesRead}
+use Rattle.tree.specs.declared.search.Aim.{Aim}
+use Rattle.tree.specs.declared.search.Aim.the-variants.{Before, After, Start, End}
+use Rattle.tree.specs.declared.search.Below.the-variants as below
+use Rattle.tree.specs.declared.search.Got.{Got}
+use Rattle.tree.specs.declared.search.Got.the-variants as got
+use Rattle.tree.specs.declared.search.Slot.the-variants as slot
+use Rattle.tree.specs.Pages.{Inside}
+use Rattle.tree.specs.Sits.{PathIn, PathOf, Sits}
+use Rattle.tree.specs.Search.{belowOf, slotOf, aimed, gotOf, GetsBelow, Gets, SeeksBelow, Seeks}
+use Rattle.model.proofs.Cases.{contrary}
+use Rattle.model.proofs.Entries.{Falls, falls-below, falls-up-to, gap-le}
+use Rattle.model.proofs.Search.{seekChild, seek-rising, seek-pages, seek-slots, find-held}
+use Rattle.model.proofs.Right.{sound-right}
+use Rattle.model.proofs.Written.{sound-written}
+use Rattle.tree.proofs.Sitting.{sits-child, sits-below, sound-sits}
+use Rattle.tree.proofs.Searching.{slot-few, own-rising, sits-aim}
+
+-- Q of each tree of n levels that sits in the pool, with its root at page p
+abbrev Each : List ℕ → ℕ → ℕ → ((h : ℕ) → Tree (suc h) → Type 0) → Type 0
+Each w p n Q = (low h : ℕ) (t : Tree (suc h)) → n ≡ suc h → Sits w low (suc h) t → Rising (entries (suc h) t) → t .page ≡ p → Q h t
+
+module _ (w : List ℕ) (p : ℕ) (aim : Aim) where
+  -- the path that is to be found
+  abbrev Finds : Bool → List ℕ → List ℕ → (h : ℕ) → Tree (suc h) → Type 0
+  Finds r ps ss h t = (r ≡ true) × (ps ≡ seekPages (aimed aim) (suc h) t) × (ss ≡ seekSlots (aimed aim) (suc h) t)
+
+  seeks : {ps ss ps′ ss′ : List ℕ} {r : Bool} → length ps′ ≡ length ps → length ss′ ≡ length ss → (r ≡ true → PathIn w ps′ ss′)
+      → Each w p (length ps) (Finds r ps′ ss′) → SeeksBelow w p aim ps ss ps′ ss′ r
+  seeks a b c d = record {
+    pages = a;
+    slots = b;
+    inside = c;
+    sound = λ low h t n s r q. d low h t n s r q .0;
+    pages-are = λ low h t n s r q. d low h t n s r q .1;
+    slots-are = λ low h t n s r q. d low h t n s r q .2;
+  }
+
+  -- no tree sits there
+  seeks-none : {ps ss ps′ ss′ : List ℕ} → length ps′ ≡ length ps → length ss′ ≡ length ss → Each w p (length ps) (λ h t. ⊥)
+      → SeeksBelow w p aim ps ss ps′ ss′ false
+  seeks-none a b d = seeks a b (λ e. contrary e refl) (λ low h t n s r q. absurd (d low h t n s r q))
+
+  -- the page's slot, as its words have it, is the tree's
+  slot-is : (n i : ℕ) → slotOf w p n aim ≡ slot.At i → Each w p (suc n) (λ h t. gapOf (aimed aim) (t .own) ≡ i)
+  slot-is n i e low h t k s r q =
+      let n-is-h : n ≡ h = omega arith in
+      let at : slotOf w p h aim ≡ slot.At i = subst (λ m. slotOf w p m aim ≡ slot.At i) n-is-h e in
+      let here : slotOf w p h aim ≡ slot.At (gapOf (aimed aim) (t .own)) = rw (← q) (sits-aim w low h t s aim (own-rising h t r)) in
+      cc
+
+  slot-never : (n : ℕ) → slotOf w p n aim ≡ slot.Unsound → Each w p (suc n) (λ h t. ⊥)
+  slot-never n e low h t k s r q =
+      let n-is-h : n ≡ h = omega arith in
+      let at : slotOf w p h aim ≡ slot.Unsound = subst (λ m. slotOf w p m aim ≡ slot.Unsound) n-is-h e in
+      let here : slotOf w p h aim ≡ slot.At (gapOf (aimed aim) (t .own)) = rw (← q) (sits-aim w low h t s aim (own-rising h t r)) in
+      let z : _≡_ {A = ℕ} 0 1 = cc in
+      omega arith
+
+  pub seek-unsound : (n : ℕ) (ps ss : List ℕ) → suc n ≡ length ps → slotOf w p n aim ≡ slot.Unsound → SeeksBelow w p aim ps ss ps ss false
+  seek-unsound n ps ss k e = seeks-none refl refl (subst (λ m. Each w p m (λ h t. ⊥)) k (slot-never n e))
+
+  module _ (n i : ℕ) (e : slotOf w p n aim ≡ slot.At i) where
+    -- the child, as the page's words have it, is the tree's
+    child-is : 0 < n → Each w p (suc n) (λ h t. belowOf w p i ≡ below.Page (numberOf h (seekChild (aimed aim) h t)))
+    child-is l low h t k s r q =
+        rw (← q, ← (slot-is n i e low h t k s r q)) (sits-below w low h t s (omega arith) (gapOf (aimed aim) (t .own)) (gap-le (aimed aim) (t .own)))
+
+    leaf-finds : n ≡ 0 → (low h : ℕ) (t : Tree (suc h)) → suc n ≡ suc h → Sits w low (suc h) t → Rising (entries (suc h) t) → t .page ≡ p
+        → Finds true (p ∷ []) (i ∷ []) h t
+    unfolding seekPages seekSlots
+    leaf-finds z low zero t k s r q = (refl, ap (λ x. x ∷ []) (sym q), ap (λ x. x ∷ []) (sym (slot-is n i e low zero t k s r q)))
+    leaf-finds z low (suc h) t k s r q = absurd (omega arith)
+
+    pub seek-end : Inside p w → (ps ss : List ℕ) → suc n ≡ length ps → length ps ≡ length ss → n ≡ 0 → SeeksBelow w p aim ps ss (set ps 0 p) (set ss 0 i) true
+    seek-end inside [] ss k l z = absurd (omega arith)
+    seek-end inside (x ∷ []) [] k l z = absurd (omega arith)
+    seek-end inside (x ∷ []) (y ∷ []) k l z =
+        seeks refl refl (λ y. record { even = refl; inside = (inside, tt); slots = (slot-few w p n aim i e, tt) })
+        (λ low h t k′ s r q. leaf-finds z low h t (omega arith) s r q)
+    seek-end inside (x ∷ []) (y ∷ y′ ∷ ss) k l z = absurd (omega arith)
+    seek-end inside (x ∷ x′ ∷ ps) ss k l z = absurd (omega arith)
+
+    pub seek-lost : (ps ss : List ℕ) → suc n ≡ length ps → 0 < n → belowOf w p i ≡ below.Unsound → SeeksBelow w p aim ps ss (set ps 0 p) (set ss 0 i) false
+    seek-lost ps ss k l b =
+        seeks-none (length-set ps 0 p) (length-set ss 0 i)
+        (λ low h t k′ s r q. let z : _≡_ {A = ℕ} 0 1 = cc (child-is l low h t (k ∙ k′) s r q) in omega arith)
+
+    down-finds : {a : Bool} {ps ss qs rs : List ℕ} (c : ℕ) → belowOf w p i ≡ below.Page c → 0 < n → n ≡ length ps → SeeksBelow w c aim ps ss qs rs a
+        → (low h : ℕ) (t : Tree (suc h)) → suc n ≡ suc h → Sits w low (suc h) t → Rising (entries (suc h) t) → t .page ≡ p
+        → Finds a (p ∷ qs) (i ∷ rs) h t
+    unfolding seekPages seekSlots
+    down-finds c b l m g low zero t k s r q = absurd (omega arith)
+    down-finds {ps = ps} c b l m g low (suc h) t k s r q =
+        let before : ℕ → Bool = aimed aim in
+        let u : Tree (suc h) = seekChild before (suc h) t in
+        let page : u .page ≡ c = cc (child-is l low (suc h) t k s r q) in
+        let long : length ps ≡ suc h = omega arith in
+        let sits : Sits w least (suc h) u = sits-child w low (suc h) t s (gapOf before (t .own)) (gap-le before (t .own)) in
+        let rise : Rising (entries (suc h) u) = seek-rising before least low (suc h) t (s .shaped) r in (
+          g .sound least h u long sits rise page,
+          ap₂ (λ (x : ℕ) (l : List ℕ). x ∷ l) (sym q) (g .pages-are least h u long sits rise page),
+          ap₂ (λ (x : ℕ) (l : List ℕ). x ∷ l) (sym (slot-is n i e low (suc h) t k s r q)) (g .slots-are least h u long sits rise page),
+        )
+
+    seek-cons : {a : Bool} {ps ss qs rs : List ℕ} (x y c : ℕ) → Inside p w → n ≡ length ps → 0 < n → belowOf w p i ≡ below.Page c → SeeksBelow w c aim ps ss qs rs a
+        → SeeksBelow w p aim (x ∷ ps) (y ∷ ss) (p ∷ qs) (i ∷ rs) a
+    seek-cons x y c inside k l b g =
+        seeks (ap suc (g .pages)) (ap suc (g .slots))
+        (λ yes-case. let path = g .inside yes-case in record {
+          even = ap suc (path .even);
+          inside = (inside, path .inside);
+          slots = (slot-few w p n aim i e, path .slots);
+        })
+        (λ low h t k′ s r q. down-finds c b l k g low h t (ap suc k ∙ k′) s r q)
+
+    -- the callee was lent what is behind the first place of each slice
+    pub seek-down : Inside p w → {a : Bool} (ps ss qs rs : List ℕ) (c : ℕ) → suc n ≡ length ps → length ps ≡ length ss → 0 < n → belowOf w p i ≡ below.Page c
+        → (k l : ℕ) → k ≡ n → l ≡ n
+        → SeeksBelow w c aim (take k (drop 1 (set ps 0 p))) (take l (drop 1 (set ss 0 i))) qs rs a
+        → SeeksBelow w p aim ps ss (take 1 (set ps 0 p) ++ (qs ++ drop k (drop 1 (set ps 0 p)))) (take 1 (set ss 0 i) ++ (rs ++ drop l (drop 1 (set ss 0 i)))) a
+    seek-down inside [] ss qs rs c long even tall b k l m o g = absurd (omega arith)
+    seek-down inside (x ∷ ps) [] qs rs c long even tall b k l m o g = absurd (omega arith)
+    seek-down inside {a} (x ∷ ps) (y ∷ ss) qs rs c long even tall b k l m o g =
+        let pages : take k ps ≡ ps = take-all k ps (omega arith) in
+        let slots : take l ss ≡ ss = take-all l ss (omega arith) in
+        let no-pages : drop k ps ≡ [] = drop-of-length-le ps {i = k} (omega arith) in
+        let no-slots : drop l ss ≡ [] = drop-of-length-le ss {i = l} (omega arith) in
+        let below-it : SeeksBelow w c aim ps ss qs rs a = rw (pages, slots) at g in
+        rw (no-pages, no-slots, append-nil qs, append-nil rs) (seek-cons x y c inside (omega arith) tall b below-it)
+
+-- ---- a whole pool
+
+-- the root's page, by the head's word
+sound-number : (w : List ℕ) → Sound w → numberOf (poolOf w .whole .levels) (poolOf w .whole .tree) ≡ rootWord w - 1
+sound-number w s =
+    let root : rootWord w ≡ rootOf (poolOf w .whole .levels) (poolOf w .whole .tree) = ap (λ (l : List ℕ). getD l 3 0) (sound-written w s .head) in
+    let less : pred (rootWord w) ≡ rootWord w - 1 = omega arith in
+    ap pred (sym root) ∙ less
+
+sound-levels : (w : List ℕ) → poolOf w .whole .levels ≡ levelsWord w
+unfolding poolOf wholeOf
+sound-levels w = refl
+
+pub falls-aim : (aim : Aim) → Falls (aimed aim)
+falls-aim (Before k) = falls-below k
+falls-aim (After k) = falls-up-to k
+falls-aim Start = λ a b l h. h
+falls-aim End = λ a b l h. refl
+
+no-levels : (h : ℕ) (t : Tree h) → h ≡ 0 → entries h t ≡ []
+unfolding entries
+no-levels zero t z = refl
+no-levels (suc h) t z = absurd (omega arith)
+
+get-tree : (w : List ℕ) (k low h : ℕ) (t : Tree h) (n p : ℕ) {r : Got} → suc n ≡ h → Sits w low h t → numberOf h t ≡ p
+    → GetsBelow w p n k 0 r → r ≡ gotOf 0 (find k h t)
+get-tree w k low zero t n p d s q g = absurd (omega arith)
+get-tree w k low (suc h) t n p {r} d s q g = let n-is-h : n ≡ h = omega arith in subst (λ n. GetsBelow w p n k 0 r) n-is-h g low t s q
+
+pub get-none : (w : List ℕ) (k : ℕ) → levelsWord w ≡ 0 → Gets w k got.Absent
+unfolding held lookup
+get-none w k z s = rw (no-levels (poolOf w .whole .levels) (poolOf w .whole .tree) (sound-levels w ∙ z))
+
+pub get-whole : (w : List ℕ) (k n p : ℕ) {r : Got} → suc n ≡ levelsWord w → rootWord w - 1 ≡ p → GetsBelow w p n k 0 r → Gets w k r
+unfolding held pagesRead Formed
+get-whole w k n p d q g s =
+    get-tree w k 1 (poolOf w .whole .levels) (poolOf w .whole .tree) n p (d ∙ sym (sound-levels w)) (sound-sits w s) (sound-number w s ∙ q) g
+    ∙ ap (gotOf 0) (find-held k least 1 (poolOf w .whole .levels) (poolOf w .whole .tree) (sound-sits w s .shaped) (sound-right w s .rising))
+
+path-none : (h : ℕ) (t : Tree h) (g : ℕ) → h ≡ 0 → PathOf h t g [] []
+unfolding gapPages gapSlots
+path-none zero t g z = record { pages = refl; slots = refl }
+path-none (suc h) t g z = absurd (omega arith)
+
+pub seek-none : (w : List ℕ) (aim : Aim) (ps ss : List ℕ) → levelsWord w ≡ 0 → length ps ≡ 0 → length ss ≡ 0 → Seeks w aim ps ss ps ss true
+seek-none w aim [] [] z a b = record {
+  pages = refl;
+  slots = refl;
+  inside = λ y. record { even = refl; inside = tt; slots = tt };
+  sound = λ s. refl;
+  path = λ s. path-none (poolOf w .whole .levels) (poolOf w .whole .tree) _ (sound-levels w ∙ z);
+}
+seek-none w aim [] (y ∷ ss) z a b = absurd (omega arith)
+seek-none w aim (x ∷ ps) ss z a b = absurd (omega arith)
+
+seek-tree : (w : List ℕ) (p : ℕ) (aim : Aim) (low h : ℕ) (t : Tree h) {ps ss ps′ ss′ : List ℕ} {r : Bool} → 0 < h → length ps ≡ h
+    → Sits w low h t → Rising (entries h t) → numberOf h t ≡ p → SeeksBelow w p aim ps ss ps′ ss′ r → (r ≡ true) × PathOf h t (gapOf (aimed aim) (entries h t)) ps′ ss′
+seek-tree w p aim low zero t l k s r q g = absurd (omega arith)
+seek-tree w p aim low (suc h) t l k s r q g = (
+  g .sound low h t k s r q,
+  record {
+    pages = g .pages-are low h t k s r q ∙ seek-pages (aimed aim) least low (suc h) t (s .shaped) r (falls-aim aim);
+    slots = g .slots-are low h t k s r q ∙ seek-slots (aimed aim) least low (suc h) t (s .shaped) r (falls-aim aim);
+  },
+)
+
+pub seek-whole : (w : List ℕ) (p : ℕ) (aim : Aim) {ps ss ps′ ss′ : List ℕ} {r : Bool} → 0 < levelsWord w → length ps ≡ levelsWord w → rootWord w - 1 ≡ p
+    → SeeksBelow w p aim ps ss ps′ ss′ r → Seeks w aim ps ss ps′ ss′ r
+unfolding held
+seek-whole w p aim {ps} {ss} {ps′} {ss′} {r} l k q g =
+    let levels = sound-levels w in
+    let found : Sound w → (r ≡ true) × PathOf (poolOf w .whole .levels) (poolOf w .whole .tree) (gapOf (aimed aim) (heldBy (poolOf w))) ps′ ss′ = λ s.
+    seek-tree w p aim 1 (poolOf w .whole .levels) (poolOf w .whole .tree) (omega arith) (omega arith) (sound-sits w s) (sound-right w s .rising) (sound-number w s ∙ q) g in
+    record { pages = g .pages; slots = g .slots; inside = g .inside; sound = λ s. found s .0; path = λ s. found s .1 }

@@ -1,0 +1,151 @@
+// Steps along a path: where the entry after the path's gap stands, and the one before it; and the gap moved over one of them, with the entry as the answer. A step reads the
+// pages that the new path has and the old one had not: a whole list costs one descent and about two links a page.
+ghost use mathlib.Core.Path.{_≡_};
+ghost use Prim.Native.Nat.{suc, _≤_};
+ghost use lib.ListN.{length};
+ghost use Rattle.model.specs.Layout.{firstWord};
+ghost use Rattle.tree.specs.Pages.{Inside};
+ghost use Rattle.tree.specs.Sits.{PathIn};
+ghost use Rattle.tree.specs.Steps.{SpotAfter, SpotBefore, Turns, Overs, Forth, Back};
+use crate::pages;
+use crate::search;
+use crate::search::Aim;
+use crate::search::Below;
+use model::MOST;
+use page::Entry;
+
+// The page and slot of an entry, or that there is none.
+pub enum Spot {
+    At(usize, usize),
+    End,
+}
+
+// What a step answers. Callers take it apart with `let .. else` and go on only with the entry that it carries.
+pub enum Step {
+    Entry(u64, u64),
+    End,
+    Unsound,
+}
+
+// Where the entry after the path's gap stands: the deepest page of the path with an entry at its slot has it.
+pub fn spot_after(pool: &[u64], pages: &[usize], slots: &[usize]) -> Spot
+    requires { ⌜ PathIn (now pool) (now pages) (now slots) ⌝ }
+    ensures { λ r. ⌜ SpotAfter (now (pool .entry)) (now (pages .entry)) (now (slots .entry)) r ⌝ }
+{
+    let n = pages.len();
+    if n == 0 {
+        return Spot::End;
+    }
+    let p = pages[n - 1];
+    let s = slots[n - 1];
+    if page::holds(pages::page_at(pool, p), MOST, s, 0) {
+        return Spot::At(p, s);
+    }
+    spot_after(pool, &pages[0..n - 1], &slots[0..n - 1])
+}
+
+// Where the entry before the path's gap stands: the deepest page of the path with an entry before its slot has it.
+pub fn spot_before(pool: &[u64], pages: &[usize], slots: &[usize]) -> Spot
+    requires { ⌜ PathIn (now pool) (now pages) (now slots) ⌝ }
+    ensures { λ r. ⌜ SpotBefore (now (pool .entry)) (now (pages .entry)) (now (slots .entry)) r ⌝ }
+{
+    let n = pages.len();
+    if n == 0 {
+        return Spot::End;
+    }
+    let p = pages[n - 1];
+    let s = slots[n - 1];
+    if 0 < s {
+        if page::holds(pages::page_at(pool, p), MOST, s - 1, 0) {
+            return Spot::At(p, s - 1);
+        }
+    }
+    spot_before(pool, &pages[0..n - 1], &slots[0..n - 1])
+}
+
+// The rest of the path goes down from child `at` of page `p`, to its start or its end.
+fn turn(
+    pool: &[u64],
+    p: usize,
+    at: usize,
+    aim: Aim,
+    pages: &mut [usize],
+    slots: &mut [usize],
+) -> bool
+    requires { ⌜ (firstWord 0 ≤ length (now pool)) × Inside p (now pool) × (length (now pages) ≡ length (now slots)) ⌝ }
+    ensures { λ r. ⌜ Turns (now (pool .entry)) p at aim (now (pages .entry)) (now (slots .entry)) (now (pages .exit)) (now (slots .exit)) r ⌝ }
+{
+    if pages.len() == 0 {
+        return true;
+    }
+    let Below::Page(c) = search::child(pool, p, at) else {
+        return false;
+    };
+    search::seek_below(pool, c, aim, pages, slots)
+}
+
+// Over entry `s` of the path's first page, to child `slot`.
+fn over(
+    pool: &[u64],
+    s: usize,
+    slot: usize,
+    aim: Aim,
+    pages: &mut [usize],
+    slots: &mut [usize],
+) -> Step
+    requires { ⌜ (firstWord 0 ≤ length (now pool)) × (1 ≤ length (now pages)) × (slot ≤ suc s) ⌝ }
+    requires { ⌜ PathIn (now pool) (now pages) (now slots) ⌝ }
+    ensures { λ r. ⌜ Overs (now (pool .entry)) s slot aim (now (pages .entry)) (now (slots .entry)) (now (pages .exit)) (now (slots .exit)) r ⌝ }
+{
+    let p = pages[0];
+    if !page::holds(pages::page_at(pool, p), MOST, s, 0) {
+        return Step::End;
+    }
+    let e = pages::entry_at(pool, p, s);
+    slots[0] = slot;
+    if turn(pool, p, slot, aim, &mut pages[1..], &mut slots[1..]) {
+        return Step::Entry(e.key, e.value);
+    }
+    Step::Unsound
+}
+
+// The entry after the path's gap, and the path of the gap after it.
+pub fn next(pool: &[u64], pages: &mut [usize], slots: &mut [usize]) -> Step
+    requires { ⌜ firstWord 0 ≤ length (now pool) ⌝ }
+    requires { ⌜ PathIn (now pool) (now pages) (now slots) ⌝ }
+    ensures { λ r. ⌜ Forth (now (pool .entry)) (now (pages .entry)) (now (slots .entry)) (now (pages .exit)) (now (slots .exit)) r ⌝ }
+{
+    if pages.len() == 0 {
+        return Step::End;
+    }
+    match next(pool, &mut pages[1..], &mut slots[1..]) {
+        Step::Entry(k, v) => Step::Entry(k, v),
+        Step::Unsound => Step::Unsound,
+        Step::End => {
+            let s = slots[0];
+            over(pool, s, s + 1, Aim::Start, pages, slots)
+        }
+    }
+}
+
+// The entry before the path's gap, and the path of the gap before it.
+pub fn prev(pool: &[u64], pages: &mut [usize], slots: &mut [usize]) -> Step
+    requires { ⌜ firstWord 0 ≤ length (now pool) ⌝ }
+    requires { ⌜ PathIn (now pool) (now pages) (now slots) ⌝ }
+    ensures { λ r. ⌜ Back (now (pool .entry)) (now (pages .entry)) (now (slots .entry)) (now (pages .exit)) (now (slots .exit)) r ⌝ }
+{
+    if pages.len() == 0 {
+        return Step::End;
+    }
+    match prev(pool, &mut pages[1..], &mut slots[1..]) {
+        Step::Entry(k, v) => Step::Entry(k, v),
+        Step::Unsound => Step::Unsound,
+        Step::End => {
+            let s = slots[0];
+            if s == 0 {
+                return Step::End;
+            }
+            over(pool, s - 1, s - 1, Aim::End, pages, slots)
+        }
+    }
+}
