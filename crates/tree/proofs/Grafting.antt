@@ -6,7 +6,7 @@ use mathlib.Core.Logic.{_≢_}
 use mathlib.Core.List.{List, [], _∷_, map}
 use Prim.Native.Nat.{ℕ, zero, suc, _+_, _-_, _≤_, _<_, pred}
 use native.Mathlib.Omega.{arith}
-use lib.ListN.{length, getD}
+use lib.ListN.{length, drop, getD, length-drop}
 use borrow.Author.Tests.{le-leb, lt-leb}
 use Rattle.model.specs.Lists.{ins, sum, All, sumTo, same}
 use Rattle.model.specs.Layout.{least, pagesIn}
@@ -32,7 +32,7 @@ use Rattle.model.proofs.Standing.{all-standing}
 use Rattle.pagemap.proofs.Taking.{take-counts, lowest-kth}
 use Rattle.tree.proofs.Saying.{Says, says-holds, says-left, says-right}
 use Rattle.tree.proofs.Sitting.{sits-count, sits-some, sits-most, sits-slot}
-use Rattle.tree.proofs.Paths.{behind, first-page, first-slot, path-behind}
+use Rattle.tree.proofs.Paths.{behind, first-page, first-slot, path-behind, behind-next, behind-from, first-from}
 use Rattle.tree.proofs.Touching.{touches-none, only-touches, only-map, map-bits}
 use Rattle.tree.proofs.Growing.{taking, upBelow, runBelow, grownBelow, run-ended, run-ends, run-goes, grown-page, grown-child, grown-next, Ready, once, once-below, inside, child-ready, page-kept, others-stand}
 
@@ -227,7 +227,7 @@ module _ {w : List ℕ} {low h : ℕ} {t : Tree (suc h)} {g : ℕ} (a : Ready w 
 
 -- ---- along a path
 
--- what a promise of `insert_below` says of each tree
+-- what a promise of `insert_along` says of each tree
 abbrev GrowsOn : List ℕ → List ℕ → List ℕ → Entry → List ℕ → up.the-data → Type 0
 GrowsOn w ps ss e w′ r =
     (low h : ℕ) (t : Tree h) (g : ℕ) → Sits w low h t → g ≤ size h t → PathOf h t g ps ss → Marked w h t → run least h t g ≤ length (freesIn w) → Grows w h t g e w′ r
@@ -252,14 +252,14 @@ module _ (w ps ss : List ℕ) (e : Entry) (z : Sized w) (some : 1 ≤ length ps)
       let c = child-ready a in
       step low h t g a path (on least h (childAt h t g) (restAt h t g) (c .sits) (c .within) (path-behind h t g ps ss path) (c .marked) (c .room))
 
-  pub below-whole : (w₁ : List ℕ) → InsertsBelow w (behind ps) (behind ss) e w₁ up.Whole → InsertsBelow w ps ss e w₁ up.Whole
+  below-whole : (w₁ : List ℕ) → InsertsBelow w (behind ps) (behind ss) e w₁ up.Whole → InsertsBelow w ps ss e w₁ up.Whole
   below-whole w₁ c = record {
     long = c .long;
     head = c .head;
     grows = below-step w₁ w₁ up.Whole up.Whole (c .grows) (λ low h t g a path G. grows-whole a z e w₁ G);
   }
 
-  pub below-put : (w₁ w₂ : List ℕ) (k v child : ℕ) (r : up.the-data) → InsertsBelow w (behind ps) (behind ss) e w₁ (up.Split k v child)
+  below-put : (w₁ w₂ : List ℕ) (k v child : ℕ) (r : up.the-data) → InsertsBelow w (behind ps) (behind ss) e w₁ (up.Split k v child)
       → Puts (getD ps 0 0) (getD ss 0 0) (entry k v) child w₁ w₂ r → InsertsBelow w ps ss e w₂ r
   below-put w₁ w₂ k v child r c P = record {
     long = P .long ∙ c .long;
@@ -267,3 +267,17 @@ module _ (w ps ss : List ℕ) (e : Entry) (z : Sized w) (some : 1 ≤ length ps)
     grows = below-step w₁ w₂ (up.Split k v child) r (c .grows)
         (λ low h t g a path G. grows-put a z e w₁ w₂ k v child r G (rw (first-page (suc h) t g (omega arith) (path .pages), first-slot h t g (path .slots)) at P));
   }
+
+-- ---- from the leaf upward: from place i of the path to place i - 1, and from any place to all of it where nothing is handed up
+
+module _ (w ps ss : List ℕ) (e : Entry) (z : Sized w) where
+  pub along-put : (i : ℕ) → 0 < i → i ≤ length ps → (w₁ w₂ : List ℕ) (k v child : ℕ) (r : up.the-data) → InsertsBelow w (drop i ps) (drop i ss) e w₁ (up.Split k v child)
+      → Puts (getD ps (i - 1) 0) (getD ss (i - 1) 0) (entry k v) child w₁ w₂ r → InsertsBelow w (drop (i - 1) ps) (drop (i - 1) ss) e w₂ r
+  along-put i some b w₁ w₂ k v child r c P =
+      below-put w (drop (i - 1) ps) (drop (i - 1) ss) e z (simp length-drop (omega arith)) w₁ w₂ k v child r
+      (rw (behind-from ps i some, behind-from ss i some) c) (rw (first-from ps (i - 1) 0, first-from ss (i - 1) 0) P)
+
+  pub along-whole : (w₁ : List ℕ) (i : ℕ) → i ≤ length ps → InsertsBelow w (drop i ps) (drop i ss) e w₁ up.Whole → InsertsBelow w ps ss e w₁ up.Whole
+  along-whole w₁ zero b c = c
+  along-whole w₁ (suc i) b c =
+      along-whole w₁ i (omega arith) (below-whole w (drop i ps) (drop i ss) e z (simp length-drop (omega arith)) w₁ (rw (behind-next ps i, behind-next ss i) c))

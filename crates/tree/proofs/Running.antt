@@ -1,6 +1,6 @@
 -- The run of full pages along a path: one page more at the path's end, and that it is `model`'s run of the tree that sits in the pool.
 -- Assumes nothing.
-use mathlib.Core.Path.{_≡_, refl, sym, ap, _∙_}
+use mathlib.Core.Path.{_≡_, refl, ap, _∙_}
 use mathlib.Core.Bool.{cond}
 use mathlib.Core.Logic.{_≢_}
 use mathlib.Core.List.{List, [], _∷_, _++_}
@@ -55,23 +55,33 @@ run-on-full w (x ∷ ps) p b =
     let long : length (ps ++ p ∷ []) ≡ suc (length ps) = omega (arith, length-append ps (p ∷ [])) in
     rw (run-on-full w ps p b, long) (onward-suc least (length ps) (countOf (pageOf w x)) (runOn w ps))
 
--- the same, as the last page is read and the others are lent
-pub run-none : (w ps : List ℕ) → length ps ≡ 0 → 0 ≡ runOn w ps
+-- ---- the same, as code comes from the path's end
+
+-- the pages that are left, the first i; those behind them are full, and belong to the run
+pub record Counted (w ps : List ℕ) (i : ℕ) : Type 0 where
+  pub within : i ≤ length ps
+  pub run : i + runOn w ps ≡ length ps + runOn w (take i ps)
+
+pub counted-none : (w ps : List ℕ) → Counted w ps (length ps)
+counted-none w ps = record { within = omega arith; run = rw (take-all (length ps) ps (omega arith)) }
+
+module _ (w ps : List ℕ) (i j : ℕ) (a : Counted w ps i) (u : i ≡ suc j) where
+  split-last : take i ps ≡ take j ps ++ (getD ps j 0 ∷ [])
+  split-last = rw u (take-suc ps j 0 (omega (arith, a .within)))
+
+  pub counted-room : countOf (pageOf w (getD ps j 0)) < most → length ps - i ≡ runOn w ps
+  counted-room b = omega (arith, a .within, a .run, ap (runOn w) split-last ∙ run-on-room w (take j ps) (getD ps j 0) b)
+
+  pub counted-full : most ≤ countOf (pageOf w (getD ps j 0)) → Counted w ps j
+  counted-full b = record {
+    within = omega (arith, a .within);
+    run = omega (arith, a .run, ap (runOn w) split-last ∙ run-on-full w (take j ps) (getD ps j 0) b);
+  }
+
+pub counted-all : (w ps : List ℕ) (i : ℕ) → Counted w ps i → i ≤ 0 → length ps ≡ runOn w ps
 unfolding runOn
-run-none w [] e = refl
-run-none w (p ∷ ps) e = absurd (omega arith)
-
-module _ (w ps : List ℕ) (some : 1 ≤ length ps) where
-  split-last : ps ≡ take (length ps - 1) ps ++ (getD ps (length ps - 1) 0 ∷ [])
-  split-last = sym (take-all (suc (length ps - 1)) ps (omega arith)) ∙ take-suc ps (length ps - 1) 0 (omega arith)
-
-  pub run-room : countOf (pageOf w (getD ps (length ps - 1) 0)) < most → 0 ≡ runOn w ps
-  run-room b = sym (ap (runOn w) split-last ∙ run-on-room w (take (length ps - 1) ps) (getD ps (length ps - 1) 0) b)
-
-  pub run-full : (r : ℕ) → most ≤ countOf (pageOf w (getD ps (length ps - 1) 0)) → r ≡ runOn w (take (length ps - 1 - 0) ps) → r + 1 ≡ runOn w ps
-  run-full r b e =
-      let all : length ps - 1 - 0 ≡ length ps - 1 = omega arith in
-      omega (arith, rw all at e, ap (runOn w) split-last ∙ run-on-full w (take (length ps - 1) ps) (getD ps (length ps - 1) 0) b)
+counted-all w ps zero a z = omega (arith, a .run)
+counted-all w ps (suc i) a z = absurd (omega arith)
 
 -- ---- of a tree
 

@@ -1,12 +1,12 @@
--- Seek, page by page: one law for each way in which the search of a page ends, with the slices that it fills; and the path found in a whole pool.
+-- Seek, page by page: one law for each way in which the search of a page ends, with the slices that it fills; the path filled from the front; and the path found in a whole pool.
 -- Assumes nothing.
 use mathlib.Core.Path.{_≡_, refl, sym, ap, ap₂, subst, _∙_}
 use mathlib.Core.Bool.{Bool, true, false}
-use mathlib.Core.List.{List, [], _∷_, _++_, append-nil}
-use Prim.Native.Nat.{ℕ, zero, suc, pred, _-_, _<_}
+use mathlib.Core.List.{List, [], _∷_, _++_, append-assoc}
+use Prim.Native.Nat.{ℕ, zero, suc, pred, _+_, _-_, _<_}
 use native.Mathlib.Omega.{arith}
-use lib.ListN.{length, take, drop, getD, set, length-set, drop-of-length-le}
-use lib.Seq.{take-all}
+use lib.ListN.{length, take, drop, getD, set, length-drop, take-append-drop}
+use lib.Seq.{drop-cons, set-split, drop-set-lt, take-suc-set}
 use Rattle.model.specs.Layout.{least}
 use Rattle.model.specs.Head.{rootWord, levelsWord}
 use Rattle.model.specs.Tree.{Tree, entries, Rising, held, Formed}
@@ -74,7 +74,7 @@ module _ (w : List ℕ) (p : ℕ) (aim : Aim) where
       let z : _≡_ {A = ℕ} 0 1 = cc in
       omega arith
 
-  pub seek-unsound : (n : ℕ) (ps ss : List ℕ) → suc n ≡ length ps → slotOf w p n aim ≡ slot.Unsound → SeeksBelow w p aim ps ss ps ss false
+  seek-unsound : (n : ℕ) (ps ss : List ℕ) → suc n ≡ length ps → slotOf w p n aim ≡ slot.Unsound → SeeksBelow w p aim ps ss ps ss false
   seek-unsound n ps ss k e = seeks-none refl refl (subst (λ m. Each w p m (λ h t. ⊥)) k (slot-never n e))
 
   module _ (n i : ℕ) (e : slotOf w p n aim ≡ slot.At i) where
@@ -89,19 +89,16 @@ module _ (w : List ℕ) (p : ℕ) (aim : Aim) where
     leaf-finds z low zero t k s r q = (refl, ap (λ x. x ∷ []) (sym q), ap (λ x. x ∷ []) (sym (slot-is n i e low zero t k s r q)))
     leaf-finds z low (suc h) t k s r q = absurd (omega arith)
 
-    pub seek-end : Inside p w → (ps ss : List ℕ) → suc n ≡ length ps → length ps ≡ length ss → n ≡ 0 → SeeksBelow w p aim ps ss (set ps 0 p) (set ss 0 i) true
-    seek-end inside [] ss k l z = absurd (omega arith)
-    seek-end inside (x ∷ []) [] k l z = absurd (omega arith)
-    seek-end inside (x ∷ []) (y ∷ []) k l z =
+    seek-end : Inside p w → (x y : ℕ) (ps ss : List ℕ) → n ≡ 0 → length ps ≡ 0 → length ss ≡ 0 → SeeksBelow w p aim (x ∷ ps) (y ∷ ss) (p ∷ ps) (i ∷ ss) true
+    seek-end inside x y [] [] z a b =
         seeks refl refl (λ y. record { even = refl; inside = (inside, tt); slots = (slot-few w p n aim i e, tt) })
-        (λ low h t k′ s r q. leaf-finds z low h t (omega arith) s r q)
-    seek-end inside (x ∷ []) (y ∷ y′ ∷ ss) k l z = absurd (omega arith)
-    seek-end inside (x ∷ x′ ∷ ps) ss k l z = absurd (omega arith)
+        (λ low h t k s r q. leaf-finds z low h t (omega arith) s r q)
+    seek-end inside x y [] (y′ ∷ ss) z a b = absurd (omega arith)
+    seek-end inside x y (x′ ∷ ps) ss z a b = absurd (omega arith)
 
-    pub seek-lost : (ps ss : List ℕ) → suc n ≡ length ps → 0 < n → belowOf w p i ≡ below.Unsound → SeeksBelow w p aim ps ss (set ps 0 p) (set ss 0 i) false
-    seek-lost ps ss k l b =
-        seeks-none (length-set ps 0 p) (length-set ss 0 i)
-        (λ low h t k′ s r q. let z : _≡_ {A = ℕ} 0 1 = cc (child-is l low h t (k ∙ k′) s r q) in omega arith)
+    seek-lost : (x y : ℕ) (ps ss : List ℕ) → n ≡ length ps → 0 < n → belowOf w p i ≡ below.Unsound → SeeksBelow w p aim (x ∷ ps) (y ∷ ss) (p ∷ ps) (i ∷ ss) false
+    seek-lost x y ps ss k l b =
+        seeks-none refl refl (λ low h t k′ s r q. let z : _≡_ {A = ℕ} 0 1 = cc (child-is l low h t (ap suc k ∙ k′) s r q) in omega arith)
 
     down-finds : {a : Bool} {ps ss qs rs : List ℕ} (c : ℕ) → belowOf w p i ≡ below.Page c → 0 < n → n ≡ length ps → SeeksBelow w c aim ps ss qs rs a
         → (low h : ℕ) (t : Tree (suc h)) → suc n ≡ suc h → Sits w low (suc h) t → Rising (entries (suc h) t) → t .page ≡ p
@@ -120,9 +117,9 @@ module _ (w : List ℕ) (p : ℕ) (aim : Aim) where
           ap₂ (λ (x : ℕ) (l : List ℕ). x ∷ l) (sym (slot-is n i e low (suc h) t k s r q)) (g .slots-are least h u long sits rise page),
         )
 
-    seek-cons : {a : Bool} {ps ss qs rs : List ℕ} (x y c : ℕ) → Inside p w → n ≡ length ps → 0 < n → belowOf w p i ≡ below.Page c → SeeksBelow w c aim ps ss qs rs a
+    seek-down : {a : Bool} {ps ss qs rs : List ℕ} (x y c : ℕ) → Inside p w → n ≡ length ps → 0 < n → belowOf w p i ≡ below.Page c → SeeksBelow w c aim ps ss qs rs a
         → SeeksBelow w p aim (x ∷ ps) (y ∷ ss) (p ∷ qs) (i ∷ rs) a
-    seek-cons x y c inside k l b g =
+    seek-down x y c inside k l b g =
         seeks (ap suc (g .pages)) (ap suc (g .slots))
         (λ yes-case. let path = g .inside yes-case in record {
           even = ap suc (path .even);
@@ -131,20 +128,53 @@ module _ (w : List ℕ) (p : ℕ) (aim : Aim) where
         })
         (λ low h t k′ s r q. down-finds c b l k g low h t (ap suc k ∙ k′) s r q)
 
-    -- the callee was lent what is behind the first place of each slice
-    pub seek-down : Inside p w → {a : Bool} (ps ss qs rs : List ℕ) (c : ℕ) → suc n ≡ length ps → length ps ≡ length ss → 0 < n → belowOf w p i ≡ below.Page c
-        → (k l : ℕ) → k ≡ n → l ≡ n
-        → SeeksBelow w c aim (take k (drop 1 (set ps 0 p))) (take l (drop 1 (set ss 0 i))) qs rs a
-        → SeeksBelow w p aim ps ss (take 1 (set ps 0 p) ++ (qs ++ drop k (drop 1 (set ps 0 p)))) (take 1 (set ss 0 i) ++ (rs ++ drop l (drop 1 (set ss 0 i)))) a
-    seek-down inside [] ss qs rs c long even tall b k l m o g = absurd (omega arith)
-    seek-down inside (x ∷ ps) [] qs rs c long even tall b k l m o g = absurd (omega arith)
-    seek-down inside {a} (x ∷ ps) (y ∷ ss) qs rs c long even tall b k l m o g =
-        let pages : take k ps ≡ ps = take-all k ps (omega arith) in
-        let slots : take l ss ≡ ss = take-all l ss (omega arith) in
-        let no-pages : drop k ps ≡ [] = drop-of-length-le ps {i = k} (omega arith) in
-        let no-slots : drop l ss ≡ [] = drop-of-length-le ss {i = l} (omega arith) in
-        let below-it : SeeksBelow w c aim ps ss qs rs a = rw (pages, slots) at g in
-        rw (no-pages, no-slots, append-nil qs, append-nil rs) (seek-cons x y c inside (omega arith) tall b below-it)
+-- ---- a path that is filled from the front
+
+-- what the search from page `at` fills in from place i on, the search from page p fills in behind what stands before place i
+abbrev pub Rest : List ℕ → ℕ → Aim → List ℕ → List ℕ → ℕ → ℕ → List ℕ → List ℕ → Type 0
+Rest w p aim ps₀ ss₀ at i ps ss =
+    (r : Bool) (qs rs : List ℕ) → SeeksBelow w at aim (drop i ps) (drop i ss) qs rs r → SeeksBelow w p aim ps₀ ss₀ (take i ps ++ qs) (take i ss ++ rs) r
+
+-- where n levels are left below page `at`
+module _ (w : List ℕ) (p : ℕ) (aim : Aim) (ps₀ ss₀ : List ℕ) (at i : ℕ) (ps ss : List ℕ) (rest : Rest w p aim ps₀ ss₀ at i ps ss)
+    (n : ℕ) (long : i + suc n ≡ length ps) (even : length ps ≡ length ss) where
+  pub rest-unsound : slotOf w at n aim ≡ slot.Unsound → SeeksBelow w p aim ps₀ ss₀ ps ss false
+  rest-unsound e =
+      let left : suc n ≡ length (drop i ps) = rw (length-drop i ps) (omega arith) in
+      let found = rest false (drop i ps) (drop i ss) (seek-unsound w at aim n (drop i ps) (drop i ss) left e) in
+      rw (take-append-drop i ps, take-append-drop i ss) at found
+
+  module _ (s : ℕ) (e : slotOf w at n aim ≡ slot.At s) where
+    stored : (r : Bool) → SeeksBelow w at aim (getD ps i 0 ∷ drop (suc i) ps) (getD ss i 0 ∷ drop (suc i) ss) (at ∷ drop (suc i) ps) (s ∷ drop (suc i) ss) r
+        → SeeksBelow w p aim ps₀ ss₀ (set ps i at) (set ss i s) r
+    stored r g =
+        rw (set-split ps i at (omega arith), set-split ss i s (omega arith))
+        (rest r (at ∷ drop (suc i) ps) (s ∷ drop (suc i) ss) (rw (drop-cons ps i 0 (omega arith), drop-cons ss i 0 (omega arith)) g))
+
+    pub rest-end : Inside at w → n ≡ 0 → SeeksBelow w p aim ps₀ ss₀ (set ps i at) (set ss i s) true
+    rest-end inside z =
+        let no-pages : length (drop (suc i) ps) ≡ 0 = rw (length-drop (suc i) ps) (omega arith) in
+        let no-slots : length (drop (suc i) ss) ≡ 0 = rw (length-drop (suc i) ss) (omega arith) in
+        stored true (seek-end w at aim n s e inside _ _ (drop (suc i) ps) (drop (suc i) ss) z no-pages no-slots)
+
+    pub rest-lost : 0 < n → belowOf w at s ≡ below.Unsound → SeeksBelow w p aim ps₀ ss₀ (set ps i at) (set ss i s) false
+    rest-lost l b =
+        let left : n ≡ length (drop (suc i) ps) = rw (length-drop (suc i) ps) (omega arith) in
+        stored false (seek-lost w at aim n s e _ _ (drop (suc i) ps) (drop (suc i) ss) left l b)
+
+    rest-next : Inside at w → 0 < n → (c : ℕ) → belowOf w at s ≡ below.Page c → Rest w p aim ps₀ ss₀ c (suc i) (set ps i at) (set ss i s)
+    rest-next inside l c b r qs rs g =
+        let left : n ≡ length (drop (suc i) ps) = rw (length-drop (suc i) ps) (omega arith) in
+        let few-pages : i < length ps = omega arith in
+        let few-slots : i < length ss = omega arith in
+        let below-it : SeeksBelow w c aim (drop (suc i) ps) (drop (suc i) ss) qs rs r = rw (drop-set-lt (suc i) ps i at (omega arith), drop-set-lt (suc i) ss i s (omega arith)) at g in
+        rw (take-suc-set ps i at few-pages, take-suc-set ss i s few-slots, append-assoc (take i ps) (at ∷ []) qs, append-assoc (take i ss) (s ∷ []) rs)
+        (rest r (at ∷ qs) (s ∷ rs) (rw (drop-cons ps i 0 few-pages, drop-cons ss i 0 few-slots) (seek-down w at aim n s e _ _ c inside left l b below-it)))
+
+    pub rest-down : Inside at w → 0 < n → (c : ℕ) → belowOf w at s ≡ below.Page c → Rest w p aim ps₀ ss₀ c (i + 1) (set ps i at) (set ss i s)
+    rest-down inside l c b =
+        let next : suc i ≡ i + 1 = omega arith in
+        subst (λ (j : ℕ). Rest w p aim ps₀ ss₀ c j (set ps i at) (set ss i s)) next (rest-next inside l c b)
 
 -- ---- a whole pool
 

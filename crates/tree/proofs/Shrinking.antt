@@ -8,7 +8,7 @@ use mathlib.Core.List.{List, map}
 use Prim.Native.Nat.{ℕ, zero, suc, _+_, _-_, _≤_, _<_, pred}
 use native.Mathlib.Omega.{arith}
 use lib.Dec.{ltb}
-use lib.ListN.{length, take, drop, getD, set, length-set}
+use lib.ListN.{length, take, drop, getD, set, length-set, length-drop}
 use lib.Seq.{set-out, map-set-same}
 use borrow.Author.Tests.{le-leb, lt-leb, lt-ltb, le-ltb}
 use Rattle.model.specs.Lists.{sum, All, final, same}
@@ -36,7 +36,7 @@ use Rattle.model.proofs.Path.{slot-at-end, rest-at-end, final-end, remove-at-pa
 use Rattle.model.proofs.Standing.{standing-frame, set-standing}
 use Rattle.pagemap.proofs.Map.{bitAt-le}
 use Rattle.tree.proofs.Sitting.{sits-own, sits-height, sits-count, sits-some, sits-most, sits-forks, sits-child, sits-slot, sits-rest}
-use Rattle.tree.proofs.Paths.{behind, first-page, first-slot, path-behind}
+use Rattle.tree.proofs.Paths.{behind, first-page, first-slot, path-behind, behind-from, first-from}
 use Rattle.tree.proofs.Touching.{only-touches, only-map}
 
 -- ---- the pages that a removal may change are pages of the tree
@@ -275,7 +275,7 @@ module _ (w w′ ps ss : List ℕ) (r : Gone) (one : length ps ≡ 1) (takes : T
       (subst₂ (λ (p i : ℕ). TakesOut p i w w′ r) (first-page 1 t g (omega arith) (path .pages)) (first-slot 0 t g (path .slots)) takes)
   leaf-path low (suc h) t g s b path = absurd (omega (arith, ap length (path .pages), path-long (suc (suc h)) t g))
 
-  pub removes-leaf : RemovesBelow w ps ss w′ r
+  removes-leaf : RemovesBelow w ps ss w′ r
   removes-leaf = record { long = takes .only .long; head = only-touches (takes .only) .head; shrinks = λ low h t g s b path marked. leaf-path low h t g s b path }
 
 module _ (w w₁ w₂ w₃ ps ss : List ℕ) (r₁ r₂ : Gone) (more : 2 ≤ length ps) (below : RemovesBelow w (behind ps) (behind ss) w₁ r₁)
@@ -294,9 +294,21 @@ module _ (w w₁ w₂ w₃ ps ss : List ℕ) (r₁ r₂ : Gone) (more : 2 ≤ le
       upper-shrinks w w₁ low h t g r₁ s b marked shrinks w₂ r₂ (subst₂ (λ (p i : ℕ). Inherits p i r₁ w₁ w₂ r₂) p i heir) w₃
       (subst₂ (λ (p i : ℕ). Mends p i w₂ w₃) p i mends)
 
-  pub removes-upper : RemovesBelow w ps ss w₃ r₂
+  removes-upper : RemovesBelow w ps ss w₃ r₂
   removes-upper = record {
     long = mends .long ∙ heir .only .long ∙ below .long;
     head = mends .head ∙ only-touches (heir .only) .head ∙ below .head;
     shrinks = upper-path;
   }
+
+-- ---- from the leaf upward: the path's last place, and from place i to place i - 1
+
+pub along-leaf : (w w′ ps ss : List ℕ) (i : ℕ) (r : Gone) → suc i ≡ length ps → TakesOut (getD ps i 0) (getD ss i 0) w w′ r → RemovesBelow w (drop i ps) (drop i ss) w′ r
+along-leaf w w′ ps ss i r last takes =
+    removes-leaf w w′ (drop i ps) (drop i ss) r (simp length-drop (omega arith)) (rw (first-from ps i 0, first-from ss i 0) takes)
+
+pub along-upper : (w w₁ w₂ w₃ ps ss : List ℕ) (i : ℕ) (r₁ r₂ : Gone) → 0 < i → i < length ps → RemovesBelow w (drop i ps) (drop i ss) w₁ r₁
+    → Inherits (getD ps (i - 1) 0) (getD ss (i - 1) 0) r₁ w₁ w₂ r₂ → Mends (getD ps (i - 1) 0) (getD ss (i - 1) 0) w₂ w₃ → RemovesBelow w (drop (i - 1) ps) (drop (i - 1) ss) w₃ r₂
+along-upper w w₁ w₂ w₃ ps ss i r₁ r₂ some b below heir mends =
+    removes-upper w w₁ w₂ w₃ (drop (i - 1) ps) (drop (i - 1) ss) r₁ r₂ (simp length-drop (omega arith)) (rw (behind-from ps i some, behind-from ss i some) below)
+    (rw (first-from ps (i - 1) 0, first-from ss (i - 1) 0) heir) (rw (first-from ps (i - 1) 0, first-from ss (i - 1) 0) mends)

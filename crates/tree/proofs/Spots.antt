@@ -7,7 +7,7 @@ use mathlib.Core.List.{List, [], _∷_, _++_}
 use Prim.Native.Nat.{ℕ, zero, suc, _-_, _≤_, _<_}
 use native.Mathlib.Omega.{arith}
 use lib.Dec.{ltb}
-use lib.ListN.{length, take, getD, length-take}
+use lib.ListN.{length, take, getD}
 use lib.Seq.{take-suc, take-all, length-take-le}
 use borrow.Author.Tests.{lt-ltb, le-ltb}
 use Rattle.model.specs.Lists.{All}
@@ -50,15 +50,38 @@ module _ (here : ℕ → ℕ → Spot) where
   deepest-more (x ∷ ps) (y ∷ ss) p s e =
       ap (λ (r : Spot). orElse r (here x y)) (deepest-more ps ss p s (omega arith)) ∙ else-again (here p s) (deepest here ps ss) (here x y)
 
-  -- so from its end
-  pub deepest-last : (ps ss : List ℕ) (j : ℕ) → length ps ≡ suc j → length ss ≡ suc j
+  -- the places of a path that are left as code comes from its end, the first i: they give what all of it gives
+  pub record Left (ps ss : List ℕ) (i : ℕ) : Type 0 where
+    pub within : i ≤ length ps
+    pub gives : deepest here (take i ps) (take i ss) ≡ deepest here ps ss
+
+  pub left-all : (ps ss : List ℕ) → length ps ≡ length ss → Left ps ss (length ps)
+  left-all ps ss e = record {
+    within = omega arith;
+    gives = ap₂ (deepest here) (take-all (length ps) ps (omega arith)) (take-all (length ps) ss (omega arith));
+  }
+
+  -- the last of them has it, or the others do
+  left-last : (ps ss : List ℕ) (i j : ℕ) → length ps ≡ length ss → Left ps ss i → i ≡ suc j
       → deepest here ps ss ≡ orElse (here (getD ps j 0) (getD ss j 0)) (deepest here (take j ps) (take j ss))
-  deepest-last ps ss j e f =
-      let a : ps ≡ take j ps ++ getD ps j 0 ∷ [] = sym (take-all (suc j) ps (omega arith)) ∙ take-suc ps j 0 (omega arith) in
-      let b : ss ≡ take j ss ++ getD ss j 0 ∷ [] = sym (take-all (suc j) ss (omega arith)) ∙ take-suc ss j 0 (omega arith) in
+  left-last ps ss i j e a u =
+      let b = a .within in
       let p : length (take j ps) ≡ j = length-take-le j ps (omega arith) in
       let s : length (take j ss) ≡ j = length-take-le j ss (omega arith) in
-      ap₂ (deepest here) a b ∙ deepest-more (take j ps) (take j ss) (getD ps j 0) (getD ss j 0) (omega arith)
+      let c : deepest here (take (suc j) ps) (take (suc j) ss) ≡ deepest here ps ss = rw u at (a .gives) in
+      sym c ∙ ap₂ (deepest here) (take-suc ps j 0 (omega arith)) (take-suc ss j 0 (omega arith))
+      ∙ deepest-more (take j ps) (take j ss) (getD ps j 0) (getD ss j 0) (omega arith)
+
+  -- where it has none, the others are left
+  pub left-less : (ps ss : List ℕ) (i j : ℕ) → length ps ≡ length ss → Left ps ss i → i ≡ suc j → here (getD ps j 0) (getD ss j 0) ≡ spot.End → Left ps ss j
+  left-less ps ss i j e a u n =
+      let b = a .within in
+      record { within = omega arith; gives = sym (left-last ps ss i j e a u ∙ rw n) }
+
+  left-none : (ps ss : List ℕ) (i : ℕ) → Left ps ss i → i ≤ 0 → spot.End ≡ deepest here ps ss
+  unfolding deepest
+  left-none ps ss zero a z = a .gives
+  left-none ps ss (suc i) a z = absurd (omega arith)
 
   -- what a page inside the pool has can be read, so can what the path has
   within-path : (w ps ss : List ℕ) → ((p s : ℕ) → Inside p w → Within w (here p s)) → All (λ p. Inside p w) ps → Within w (deepest here ps ss)
@@ -167,22 +190,9 @@ module _ (w : List ℕ) where
 
 -- ---- what is answered, from the path's end
 
-deepest-none : (here : ℕ → ℕ → Spot) (ps ss : List ℕ) → length ps ≡ 0 → spot.End ≡ deepest here ps ss
-unfolding deepest
-deepest-none here [] ss z = refl
-deepest-none here (p ∷ ps) ss z = absurd (omega arith)
-
-pub earlier-less : (ps : List ℕ) → (length ps ≡ 0 → ⊥) → length (take (length ps - 1 - 0) ps) < length ps
-earlier-less ps n = simp length-take (omega arith)
-
--- the last page of the path, or all but that
-last-page : (here : ℕ → ℕ → Spot) (ps ss : List ℕ) → (length ps ≡ 0 → ⊥) → length ps ≡ length ss
-    → deepest here ps ss ≡ orElse (here (getD ps (length ps - 1) 0) (getD ss (length ps - 1) 0))
-    (deepest here (take (length ps - 1 - 0) ps) (take (length ps - 1 - 0) ss))
-last-page here ps ss n e =
-    let j = length ps - 1 in
-    let z : length ps - 1 - 0 ≡ j = omega arith in
-    rw z (deepest-last here ps ss j (omega arith) (omega arith))
+pub after-lost : (w : List ℕ) (p s : ℕ) → holdsAt most (pageOf w p) s 0 ≡ false → hereAfter w p s ≡ spot.End
+unfolding hereAfter
+after-lost w p s n = rw n
 
 -- before slot s of page p
 here-before : (w : List ℕ) (p s : ℕ) → 0 < s → hereBefore w p s ≡ hereAfter w p (s - 1)
@@ -190,14 +200,13 @@ unfolding hereBefore
 here-before w p zero l = absurd (omega arith)
 here-before w p (suc s) l = let e : suc s - 1 ≡ s = omega arith in rw e
 
-pub here-first : (w : List ℕ) (p s : ℕ) → s ≤ 0 → hereBefore w p s ≡ spot.End
+pub before-first : (w : List ℕ) (p s : ℕ) → s ≤ 0 → hereBefore w p s ≡ spot.End
 unfolding hereBefore
-here-first w p zero l = refl
-here-first w p (suc s) l = absurd (omega arith)
+before-first w p zero l = refl
+before-first w p (suc s) l = absurd (omega arith)
 
-pub here-lost : (w : List ℕ) (p s : ℕ) → 0 < s → holdsAt most (pageOf w p) (s - 1) 0 ≡ false → hereBefore w p s ≡ spot.End
-unfolding hereAfter
-here-lost w p s l n = here-before w p s l ∙ rw n
+pub before-lost : (w : List ℕ) (p s : ℕ) → 0 < s → holdsAt most (pageOf w p) (s - 1) 0 ≡ false → hereBefore w p s ≡ spot.End
+before-lost w p s l n = here-before w p s l ∙ after-lost w p (s - 1) n
 
 module _ (w ps ss : List ℕ) (q : PathIn w ps ss) where
   after-said : {r : Spot} → r ≡ deepest (hereAfter w) ps ss → SpotAfter w ps ss r
@@ -214,32 +223,24 @@ module _ (w ps ss : List ℕ) (q : PathIn w ps ss) where
     exact = λ low h t g u b a. e ∙ ap₂ (deepest (hereBefore w)) (a .pages) (a .slots) ∙ path-before w low h t g u b;
   }
 
-  pub after-none : length ps ≡ 0 → SpotAfter w ps ss spot.End
-  after-none z = after-said (deepest-none (hereAfter w) ps ss z)
+  module _ (i : ℕ) where
+    pub after-none : Left (hereAfter w) ps ss i → i ≤ 0 → SpotAfter w ps ss spot.End
+    after-none a z = after-said (left-none (hereAfter w) ps ss i a z)
 
-  pub before-none : length ps ≡ 0 → SpotBefore w ps ss spot.End
-  before-none z = before-said (deepest-none (hereBefore w) ps ss z)
+    pub before-none : Left (hereBefore w) ps ss i → i ≤ 0 → SpotBefore w ps ss spot.End
+    before-none a z = before-said (left-none (hereBefore w) ps ss i a z)
 
-  module _ (n : length ps ≡ 0 → ⊥) where
-    abbrev p : ℕ
-    p = getD ps (length ps - 1) 0
+    module _ (j : ℕ) (u : i ≡ suc j) where
+      abbrev p : ℕ
+      p = getD ps j 0
 
-    abbrev s : ℕ
-    s = getD ss (length ps - 1) 0
+      abbrev s : ℕ
+      s = getD ss j 0
 
-    pub after-here : holdsAt most (pageOf w p) s 0 ≡ true → SpotAfter w ps ss (spot.At p s)
-    unfolding hereAfter
-    after-here y = after-said (sym (last-page (hereAfter w) ps ss n (q .even) ∙ rw y))
+      pub after-here : Left (hereAfter w) ps ss i → holdsAt most (pageOf w p) s 0 ≡ true → SpotAfter w ps ss (spot.At p s)
+      unfolding hereAfter
+      after-here a y = after-said (sym (left-last (hereAfter w) ps ss i j (q .even) a u ∙ rw y))
 
-    pub after-above : {r : Spot} → holdsAt most (pageOf w p) s 0 ≡ false
-        → SpotAfter w (take (length ps - 1 - 0) ps) (take (length ps - 1 - 0) ss) r → SpotAfter w ps ss r
-    unfolding hereAfter
-    after-above y c = after-said (c .looked ∙ sym (last-page (hereAfter w) ps ss n (q .even) ∙ rw y))
-
-    pub before-here : 0 < s → holdsAt most (pageOf w p) (s - 1) 0 ≡ true → SpotBefore w ps ss (spot.At p (s - 1))
-    unfolding hereAfter
-    before-here l y = before-said (sym (last-page (hereBefore w) ps ss n (q .even) ∙ rw (here-before w p s l, y)))
-
-    pub before-above : {r : Spot} → hereBefore w p s ≡ spot.End
-        → SpotBefore w (take (length ps - 1 - 0) ps) (take (length ps - 1 - 0) ss) r → SpotBefore w ps ss r
-    before-above y c = before-said (c .looked ∙ sym (last-page (hereBefore w) ps ss n (q .even) ∙ rw y))
+      pub before-here : Left (hereBefore w) ps ss i → 0 < s → holdsAt most (pageOf w p) (s - 1) 0 ≡ true → SpotBefore w ps ss (spot.At p (s - 1))
+      unfolding hereAfter
+      before-here a l y = before-said (sym (left-last (hereBefore w) ps ss i j (q .even) a u ∙ rw (here-before w p s l, y)))

@@ -1,15 +1,16 @@
--- A step at one page: the rest of the path goes down from one of its children, over one of its own entries. And all of a path but its first, which is lent
--- to the next page's step.
+-- A step at one page: the rest of the path goes down from one of its children, over one of its own entries. And a step along a path, from the leaf
+-- upward: the first page that has an entry there answers for all above it.
 -- Assumes nothing.
 use mathlib.Core.Path.{_≡_, refl, sym, ap, _∙_}
 use mathlib.Core.Bool.{Bool, true, false}
 use mathlib.Core.Option.{Option, none}
-use mathlib.Core.List.{List, [], _∷_}
+use mathlib.Core.List.{List, [], _∷_, _++_}
 use Prim.Native.Nat.{ℕ, zero, suc, _+_, _-_, _≤_, _<_}
 use native.Mathlib.Numerals.{add-one}
 use native.Mathlib.Omega.{arith}
 use lib.Dec.{ltb}
-use lib.ListN.{length, getD, set}
+use lib.ListN.{length, getD, set, take, drop, length-drop}
+use lib.Seq.{drop-cons}
 use borrow.Author.Tests.{lt-ltb, le-ltb}
 use Rattle.model.specs.Layout.{least}
 use Rattle.model.specs.Tree.{Entry, Tree, noEntry, entry, entries, size, Rising}
@@ -32,7 +33,7 @@ use Rattle.model.proofs.Search.{path-long}
 use Rattle.page.proofs.Pages.{holds-facts, holds-at}
 use Rattle.tree.proofs.Lent.{own-at}
 use Rattle.tree.proofs.Sitting.{sits-own, sits-count, sits-most, sits-child, sits-below, sits-rest}
-use Rattle.tree.proofs.Paths.{behind, no-length, behindBack, behind-same, behind-is, behind-back}
+use Rattle.tree.proofs.Paths.{behind, no-length, behindBack, behind-is, behind-back, from, fromBack, from-drop, from-back, from-same, path-from}
 use Rattle.tree.proofs.Stepping.{rising-child, Way, Seam, forward, forward-seam, backward, backward-seam, backward-start, step-still, step-below, step-end, step-over}
 
 -- ---- the child that is followed
@@ -151,7 +152,7 @@ module _ (w : List ℕ) (s i : ℕ) (aim : Aim) where
           ∙ ap (λ (l : List Entry). getD l s noEntry) (sits-own w low h t u) in
           rw (r .0, r .1, r .2, g) (ap (λ (y : Entry). step.Entry (y .key) (y .value)) x, refl, refl)
 
--- ---- the step of a page, from that of the rest of its path, which was lent
+-- ---- a step along the path, from the leaf upward
 
 pub entry-other : (k v : ℕ) → step.Entry k v ≡ step.End → ⊥
 entry-other k v e = let z : _≡_ {A = ℕ} 0 1 = cc in omega arith
@@ -159,9 +160,16 @@ entry-other k v e = let z : _≡_ {A = ℕ} 0 1 = cc in omega arith
 pub unsound-other : step.Unsound ≡ step.End → ⊥
 unsound-other e = let z : _≡_ {A = ℕ} 0 1 = cc in omega arith
 
+-- the path is still as it was, and what hangs under its first i pages is at its end
+pub record Along (over : ℕ → List Entry → Option Entry) (to : Option Entry → ℕ → ℕ) (w ps₀ ss₀ ps ss : List ℕ) (i : ℕ) : Type 0 where
+  pub within : i ≤ length ps₀
+  pub pages : ps ≡ ps₀
+  pub slots : ss ≡ ss₀
+  pub ended : Steps over to w (drop i ps₀) (drop i ss₀) (drop i ps₀) (drop i ss₀) step.End
+
 module _ (over : ℕ → List Entry → Option Entry) (to : Option Entry → ℕ → ℕ) (way : Way over to) (w : List ℕ) where
   -- a path of no pages
-  pub page-none : (ps ss : List ℕ) → length ps ≡ 0 → Steps over to w ps ss ps ss step.End
+  page-none : (ps ss : List ℕ) → length ps ≡ 0 → Steps over to w ps ss ps ss step.End
   unfolding entries
   page-none ps ss z = step-still over to way w (λ low h t g u up b a. last h t g (a .pages))
     where
@@ -169,62 +177,97 @@ module _ (over : ℕ → List Entry → Option Entry) (to : Option Entry → ℕ
       last zero t g a = way .void g
       last (suc h) t g a = absurd (omega (arith, ap length a, path-long (suc h) t g .0))
 
-  pub page-below : {ps′ ss′ : List ℕ} {r : Step} (ps ss : List ℕ) → (length ps ≡ 0 → ⊥) → PathIn w ps ss → (r ≡ step.End → ⊥)
-      → Steps over to w (behind ps) (behind ss) ps′ ss′ r → Steps over to w ps ss (behindBack ps ps′) (behindBack ss ss′) r
-  page-below [] ss n q e c = absurd (n refl)
-  page-below (p ∷ ps) [] n q e c = absurd (omega (arith, q .even))
-  page-below {ps′} {ss′} {r} (p ∷ ps) (s ∷ ss) n q e c =
-      rw (behind-back p ps ps′, behind-back s ss ss′) (step-below over to way w q e (rw (behind-is p ps, behind-is s ss) at c))
+  -- what a page answers, other than that it is at its end, all pages above it answer
+  page-below : (i : ℕ) {ps′ ss′ : List ℕ} {r : Step} (ps ss : List ℕ) → i ≤ length ps → PathIn w ps ss → (r ≡ step.End → ⊥)
+      → Steps over to w (drop i ps) (drop i ss) ps′ ss′ r → Steps over to w ps ss (take i ps ++ ps′) (take i ss ++ ss′) r
+  page-below zero ps ss l q n c = c
+  page-below (suc i) [] ss l q n c = absurd (omega arith)
+  page-below (suc i) (p ∷ ps) [] l q n c = absurd (omega (arith, q .even))
+  page-below (suc i) (p ∷ ps) (s ∷ ss) l q n c =
+      let e = q .even in
+      step-below over to way w q n (page-below i ps ss (omega arith) (record { even = omega arith; inside = q .inside .1; slots = q .slots .1 }) n c)
 
-  -- at its end the child leaves its path
-  pub page-same : {ps₁ ss₁ : List ℕ} (ps ss : List ℕ) → PathIn w ps ss → Steps over to w (behind ps) (behind ss) ps₁ ss₁ step.End
-      → PathIn w (behindBack ps ps₁) (behindBack ss ss₁)
-  page-same {ps₁} {ss₁} ps ss q c = let k = c .still refl in rw (behind-same ps ps₁ (k .0), behind-same ss ss₁ (k .1)) q
+  module _ (ps₀ ss₀ : List ℕ) where
+    pub along-start : Along over to w ps₀ ss₀ ps₀ ss₀ (length ps₀)
+    along-start = record {
+      within = omega arith;
+      pages = refl;
+      slots = refl;
+      ended = page-none (drop (length ps₀) ps₀) (drop (length ps₀) ss₀) (simp length-drop (omega arith));
+    }
 
-  pub page-end : {s₀ : ℕ} {ps₁ ss₁ : List ℕ} (ps ss : List ℕ) → (length ps ≡ 0 → ⊥) → PathIn w ps ss
-      → Steps over to w (behind ps) (behind ss) ps₁ ss₁ step.End → s₀ ≡ getD (behindBack ss ss₁) 0 0
-      → ((low h : ℕ) (t : Tree (suc h)) (g : ℕ) → Sits w low (suc h) t → g ≤ size (suc h) t → s₀ ≡ slotAt h t g
-      → over (restAt h t g) (entries h (childAt h t g)) ≡ none → over g (entries (suc h) t) ≡ none)
-      → Steps over to w ps ss (behindBack ps ps₁) (behindBack ss ss₁) step.End
-  page-end [] ss n q c e seam = absurd (n refl)
-  page-end (p ∷ ps) [] n q c e seam = absurd (omega (arith, q .even))
-  page-end {s₀} {ps₁} {ss₁} (p ∷ ps) (s₁ ∷ ss) n q c e seam =
-      let k = c .still refl in
-      let x : behindBack (s₁ ∷ ss) ss₁ ≡ s₁ ∷ ss = behind-same (s₁ ∷ ss) ss₁ (k .1) in
-      let y : s₀ ≡ s₁ = e ∙ ap (λ (l : List ℕ). getD l 0 0) x in
-      rw (behind-same (p ∷ ps) ps₁ (k .0), x)
-      (step-end over to way w (rw (behind-is p ps, behind-is s₁ ss) at c) (λ low h t g u b z. seam low h t g u b (y ∙ z)))
+    -- above the root there is nothing
+    pub along-done : {ps ss : List ℕ} {i : ℕ} → Along over to w ps₀ ss₀ ps ss i → i ≡ 0 → Steps over to w ps₀ ss₀ ps ss step.End
+    along-done {ps} {ss} {i} a z = rw (a .pages, a .slots) (rw z at (a .ended))
 
-  pub page-over : {s₀ s i : ℕ} {aim : Aim} {ps₁ ss₁ ps′ ss′ : List ℕ} {r : Step} (ps ss : List ℕ) → (length ps ≡ 0 → ⊥) → PathIn w ps ss
-      → Steps over to w (behind ps) (behind ss) ps₁ ss₁ step.End → s₀ ≡ getD (behindBack ss ss₁) 0 0
-      → ((low h : ℕ) (t : Tree (suc h)) (g : ℕ) → Sits w low (suc h) t → g ≤ size (suc h) t → s₀ ≡ slotAt h t g
-      → over (restAt h t g) (entries h (childAt h t g)) ≡ none → Seam over to aim s i h t g)
-      → Overs w s i aim (behindBack ps ps₁) (behindBack ss ss₁) ps′ ss′ r → Steps over to w ps ss ps′ ss′ r
-  page-over [] ss n q c e seam o = absurd (n refl)
-  page-over (p ∷ ps) [] n q c e seam o = absurd (omega (arith, q .even))
-  page-over {s₀} {s} {i} {aim} {ps₁} {ss₁} {ps′} {ss′} {r} (p ∷ ps) (s₁ ∷ ss) n q c e seam o =
-      let k = c .still refl in
-      let x : behindBack (s₁ ∷ ss) ss₁ ≡ s₁ ∷ ss = behind-same (s₁ ∷ ss) ss₁ (k .1) in
-      let y : s₀ ≡ s₁ = e ∙ ap (λ (l : List ℕ). getD l 0 0) x in
-      step-over over to way w (rw (behind-is p ps, behind-is s₁ ss) at c) (λ low h t g u b z. seam low h t g u b (y ∙ z))
-      (rw (behind-same (p ∷ ps) ps₁ (k .0), x) at o)
+    module _ {ps ss : List ℕ} {i j : ℕ} (q : PathIn w ps₀ ss₀) (a : Along over to w ps₀ ss₀ ps ss j) (n : j ≡ suc i) where
+      ended : Steps over to w (drop (suc i) ps₀) (drop (suc i) ss₀) (drop (suc i) ps₀) (drop (suc i) ss₀) step.End
+      ended = rw n at (a .ended)
 
-module _ (w ps ss : List ℕ) (n : length ps ≡ 0 → ⊥) (q : PathIn w ps ss) where
-  pub page-next : {s : ℕ} {ps₁ ss₁ ps′ ss′ : List ℕ} {r : Step} → Forth w (behind ps) (behind ss) ps₁ ss₁ step.End → s ≡ getD (behindBack ss ss₁) 0 0
-      → Overs w s (s + 1) Start (behindBack ps ps₁) (behindBack ss ss₁) ps′ ss′ r → Forth w ps ss ps′ ss′ r
-  page-next {s} c e o =
-      page-over next forth forward w ps ss n q c e
+      page-at : drop i ps₀ ≡ getD ps₀ i 0 ∷ drop (suc i) ps₀
+      page-at = drop-cons ps₀ i 0 (omega (arith, a .within))
+
+      slot-at : drop i ss₀ ≡ getD ss₀ i 0 ∷ drop (suc i) ss₀
+      slot-at = drop-cons ss₀ i 0 (omega (arith, a .within, q .even))
+
+      -- the path as it is lent from page i on
+      pub along-inside : PathIn w (from i ps) (from i ss)
+      along-inside = rw (a .pages, a .slots) (path-from w ps₀ ss₀ q i)
+
+      along-over : {s₀ s x : ℕ} {aim : Aim} {ps′ ss′ : List ℕ} {r : Step} → s₀ ≡ getD ss i 0
+          → ((low h : ℕ) (t : Tree (suc h)) (g : ℕ) → Sits w low (suc h) t → g ≤ size (suc h) t → s₀ ≡ slotAt h t g
+          → over (restAt h t g) (entries h (childAt h t g)) ≡ none → Seam over to aim s x h t g)
+          → Overs w s x aim (from i ps) (from i ss) ps′ ss′ r → Steps over to w (drop i ps₀) (drop i ss₀) ps′ ss′ r
+      along-over {s₀} {s} {x} {aim} {ps′} {ss′} {r} e seam o =
+          let y : s₀ ≡ getD ss₀ i 0 = e ∙ ap (λ (l : List ℕ). getD l i 0) (a .slots) in
+          let o₁ : Overs w s x aim (drop i ps₀) (drop i ss₀) ps′ ss′ r = rw (from-drop i ps, from-drop i ss, a .pages, a .slots) at o in
+          rw (page-at, slot-at) (step-over over to way w ended (λ low h t g u b z. seam low h t g u b (y ∙ z)) (rw (page-at, slot-at) at o₁))
+
+      -- the page is at its end too
+      pub along-end : {ps′ ss′ : List ℕ} → Steps over to w (drop i ps₀) (drop i ss₀) ps′ ss′ step.End
+          → Along over to w ps₀ ss₀ (fromBack i ps ps′) (fromBack i ss ss′) i
+      along-end {ps′} {ss′} c =
+          let k = c .still refl in
+          record {
+            within = omega (arith, a .within);
+            pages = rw (a .pages) (from-same i ps₀ ps′ (k .0));
+            slots = rw (a .slots) (from-same i ss₀ ss′ (k .1));
+            ended = rw (k .0, k .1) at c;
+          }
+
+      -- the same where the page has no entry to look at
+      along-still : ((low h : ℕ) (t : Tree (suc h)) (g : ℕ) → Sits w low (suc h) t → g ≤ size (suc h) t → getD ss i 0 ≡ slotAt h t g
+          → over (restAt h t g) (entries h (childAt h t g)) ≡ none → over g (entries (suc h) t) ≡ none)
+          → Along over to w ps₀ ss₀ ps ss i
+      along-still seam = record {
+        within = omega (arith, a .within);
+        pages = a .pages;
+        slots = a .slots;
+        ended = rw (page-at, slot-at)
+            (step-end over to way w ended (λ low h t g u b z. seam low h t g u b (ap (λ (l : List ℕ). getD l i 0) (a .slots) ∙ z)));
+      }
+
+      -- or it answers for the whole path
+      pub along-answer : {ps′ ss′ : List ℕ} {r : Step} → (r ≡ step.End → ⊥) → Steps over to w (drop i ps₀) (drop i ss₀) ps′ ss′ r
+          → Steps over to w ps₀ ss₀ (fromBack i ps ps′) (fromBack i ss ss′) r
+      along-answer {ps′} {ss′} {r} m c =
+          rw (a .pages, a .slots, from-back i ps₀ ps′, from-back i ss₀ ss′) (page-below i ps₀ ss₀ (omega (arith, a .within)) q m c)
+
+module _ (w ps₀ ss₀ : List ℕ) {ps ss : List ℕ} {i j : ℕ} (q : PathIn w ps₀ ss₀) where
+  pub along-next : {s : ℕ} {ps′ ss′ : List ℕ} {r : Step} → Along next forth w ps₀ ss₀ ps ss j → j ≡ suc i → s ≡ getD ss i 0
+      → Overs w s (s + 1) Start (from i ps) (from i ss) ps′ ss′ r → Forth w (drop i ps₀) (drop i ss₀) ps′ ss′ r
+  along-next {s} a n e o =
+      along-over next forth forward w ps₀ ss₀ q a n e
       (λ low h t g u b z x. rw (add-one, z) (forward-seam least low h t g (u .shaped) b (sits-rest w low h t u g b) x)) o
 
-  pub page-prev : {s : ℕ} {ps₁ ss₁ ps′ ss′ : List ℕ} {r : Step} → Back w (behind ps) (behind ss) ps₁ ss₁ step.End → s ≡ getD (behindBack ss ss₁) 0 0
-      → (s ≡ 0 → ⊥) → Overs w (s - 1) (s - 1) End (behindBack ps ps₁) (behindBack ss ss₁) ps′ ss′ r → Back w ps ss ps′ ss′ r
-  page-prev {s} c e m o =
-      page-over prev back backward w ps ss n q c e
+  pub along-prev : {s : ℕ} {ps′ ss′ : List ℕ} {r : Step} → Along prev back w ps₀ ss₀ ps ss j → j ≡ suc i → s ≡ getD ss i 0 → 0 < s
+      → Overs w (s - 1) (s - 1) End (from i ps) (from i ss) ps′ ss′ r → Back w (drop i ps₀) (drop i ss₀) ps′ ss′ r
+  along-prev {s} a n e m o =
+      along-over prev back backward w ps₀ ss₀ q a n e
       (λ low h t g u b z x. backward-seam least low h t g (s - 1) (u .shaped) b (sits-rest w low h t u g b) x (omega arith)) o
 
   -- before the first child's first gap there is nothing
-  pub page-first : {s : ℕ} {ps₁ ss₁ : List ℕ} → Back w (behind ps) (behind ss) ps₁ ss₁ step.End → s ≡ getD (behindBack ss ss₁) 0 0 → s ≡ 0
-      → Back w ps ss (behindBack ps ps₁) (behindBack ss ss₁) step.End
-  page-first c e z =
-      page-end prev back backward w ps ss n q c e
-      (λ low h t g u b i x. backward-start least low h t g (u .shaped) b (sits-rest w low h t u g b) x (sym i ∙ z))
+  pub along-first : Along prev back w ps₀ ss₀ ps ss j → j ≡ suc i → getD ss i 0 ≡ 0 → Along prev back w ps₀ ss₀ ps ss i
+  along-first a n z =
+      along-still prev back backward w ps₀ ss₀ q a n
+      (λ low h t g u b e x. backward-start least low h t g (u .shaped) b (sits-rest w low h t u g b) x (sym e ∙ z))

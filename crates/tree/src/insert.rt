@@ -1,5 +1,5 @@
 // Insertion along a path, at its gap. The pages it needs are counted first, from the leaf upward, and free pages only where one is needed. Then a new key goes into the leaf,
-// and what a page hands up goes into the page above it, by recursion on the remaining levels.
+// and what a page hands up goes into the page above it, from the leaf upward.
 ghost use mathlib.Core.Path.{_≡_};
 ghost use mathlib.Core.Bool.{true};
 ghost use Prim.Native.Nat.{_≤_};
@@ -35,13 +35,14 @@ fn run(pool: &[u64], pages: &[usize]) -> usize
     ensures { λ r. ⌜ r ≡ runOn (now (pool .entry)) (now (pages .entry)) ⌝ }
 {
     let n = pages.len();
-    if n == 0 {
-        return 0;
+    let mut i = n;
+    while 0 < i {
+        if pages::count(pool, pages[i - 1]) < MOST {
+            return n - i;
+        }
+        i -= 1;
     }
-    if pages::count(pool, pages[n - 1]) < MOST {
-        return 0;
-    }
-    run(pool, &pages[0..n - 1]) + 1
+    n
 }
 
 // The pages that an insert needs: 1 more if that run includes the root; so 1 for an empty tree.
@@ -74,19 +75,30 @@ fn put(pool: &mut [u64], p: usize, slot: usize, key: u64, value: u64, child: u64
     }
 }
 
-// Below the path's first page, and then into it.
-fn insert_below(pool: &mut [u64], pages: &[usize], slots: &[usize], key: u64, value: u64) -> Up
+// From the leaf upward: what a page hands up goes into the page above it.
+fn insert_along(pool: &mut [u64], pages: &[usize], slots: &[usize], key: u64, value: u64) -> Up
     requires { ⌜ Sized (now pool) ⌝ }
     requires { ⌜ PathIn (now pool) (now pages) (now slots) ⌝ }
     ensures { λ r. ⌜ InsertsBelow (now (pool .entry)) (now (pages .entry)) (now (slots .entry)) (entry key value) (now (pool .exit)) r ⌝ }
 {
-    if pages.len() == 0 {
-        return Up::Split(key, value, 0);
+    let mut k = key;
+    let mut v = value;
+    let mut child: u64 = 0;
+    let mut i = pages.len();
+    while 0 < i {
+        i -= 1;
+        match put(pool, pages[i], slots[i], k, v, child) {
+            Up::Whole => {
+                return Up::Whole;
+            }
+            Up::Split(k1, v1, c1) => {
+                k = k1;
+                v = v1;
+                child = c1;
+            }
+        }
     }
-    match insert_below(pool, &pages[1..], &slots[1..], key, value) {
-        Up::Whole => Up::Whole,
-        Up::Split(k, v, child) => put(pool, pages[0], slots[0], k, v, child),
-    }
+    Up::Split(k, v, child)
 }
 
 // The root's page, where there is one.
@@ -125,7 +137,7 @@ pub fn insert(pool: &mut [u64], pages: &[usize], slots: &[usize], key: u64, valu
             return Inserted::Full;
         }
     }
-    match insert_below(pool, pages, slots, key, value) {
+    match insert_along(pool, pages, slots, key, value) {
         Up::Whole => {}
         Up::Split(k, v, right) => {
             let left = root_of(pages);

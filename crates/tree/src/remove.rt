@@ -1,5 +1,5 @@
 // Removal along a path: the entry after its gap goes. All pages that will be read are looked at before the first store. An entry of an upper page is replaced by the
-// greatest below its left child, which comes up from the leaf; pages left with three are mended on the way up, by recursion on the remaining levels.
+// greatest below its left child, which comes up from the leaf; pages left with three are mended, from the leaf upward.
 ghost use mathlib.Core.Path.{_≡_};
 ghost use mathlib.Core.Bool.{true};
 ghost use mathlib.Core.List.{[], _∷_};
@@ -172,21 +172,20 @@ fn inherit(pool: &mut [u64], p: usize, s: usize, gone: Gone) -> Gone
     Gone::Last(k, v)
 }
 
-// Below the path's first page, and then in it.
-fn remove_below(pool: &mut [u64], pages: &[usize], slots: &[usize]) -> Gone
+// From the leaf upward: the entry goes there, and each page above takes in what comes up and mends its child on the path.
+fn remove_along(pool: &mut [u64], pages: &[usize], slots: &[usize]) -> Gone
     requires { ⌜ (firstWord 0 ≤ length (now pool)) × (1 ≤ length (now pages)) ⌝ }
     requires { ⌜ PathIn (now pool) (now pages) (now slots) ⌝ }
     ensures { λ r. ⌜ RemovesBelow (now (pool .entry)) (now (pages .entry)) (now (slots .entry)) (now (pool .exit)) r ⌝ }
 {
-    let p = pages[0];
-    let s = slots[0];
-    if pages.len() == 1 {
-        return take_out(pool, p, s);
+    let mut i = pages.len() - 1;
+    let mut gone = take_out(pool, pages[i], slots[i]);
+    while 0 < i {
+        i -= 1;
+        gone = inherit(pool, pages[i], slots[i], gone);
+        mend(pool, pages[i], slots[i]);
     }
-    let gone = remove_below(pool, &pages[1..], &slots[1..]);
-    let left = inherit(pool, p, s, gone);
-    mend(pool, p, s);
-    left
+    gone
 }
 
 // Whether child `at` of page `u` can be a neighbour.
@@ -274,7 +273,7 @@ pub fn remove(pool: &mut [u64], pages: &[usize], slots: &[usize]) -> Change
     if !can_remove(pool, pages, slots) {
         return Change::Unsound;
     }
-    remove_below(pool, pages, slots);
+    remove_along(pool, pages, slots);
     lower_root(pool, pages[0], pages.len());
     pool[2] = pool[2] - 1;
     Change::Done

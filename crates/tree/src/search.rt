@@ -71,16 +71,25 @@ pub fn get_below(pool: &[u64], p: usize, h: usize, key: u64, above: usize) -> Go
     requires { ⌜ (firstWord 0 ≤ length (now pool)) × Inside p (now pool) × (above + h < mostLevels) ⌝ }
     ensures { λ r. ⌜ GetsBelow (now (pool .entry)) p h key above r ⌝ }
 {
-    match look(pool, p, h, key) {
-        Place::Unsound => Got::Unsound,
-        Place::Here(i) => Got::Value(pages::entry_at(pool, p, i).value, above + 1),
-        Place::Gap(i) => {
-            if h == 0 {
-                return Got::Absent;
-            }
-            match child(pool, p, i) {
-                Below::Unsound => Got::Unsound,
-                Below::Page(c) => get_below(pool, c, h - 1, key, above + 1),
+    let mut at = p;
+    let mut left = h;
+    let mut read = above;
+    loop {
+        match look(pool, at, left, key) {
+            Place::Unsound => return Got::Unsound,
+            Place::Here(i) => return Got::Value(pages::entry_at(pool, at, i).value, read + 1),
+            Place::Gap(i) => {
+                if left == 0 {
+                    return Got::Absent;
+                }
+                match child(pool, at, i) {
+                    Below::Unsound => return Got::Unsound,
+                    Below::Page(c) => {
+                        at = c;
+                        left -= 1;
+                        read += 1;
+                    }
+                }
             }
         }
     }
@@ -152,19 +161,24 @@ pub fn seek_below(
     requires { ⌜ (firstWord 0 ≤ length (now pool)) × Inside p (now pool) × (1 ≤ length (now pages)) × (length (now pages) ≡ length (now slots)) ⌝ }
     ensures { λ r. ⌜ SeeksBelow (now (pool .entry)) p aim (now (pages .entry)) (now (slots .entry)) (now (pages .exit)) (now (slots .exit)) r ⌝ }
 {
-    let h = pages.len() - 1;
-    let Slot::At(i) = slot_in(pool, p, h, aim) else {
-        return false;
-    };
-    pages[0] = p;
-    slots[0] = i;
-    if h == 0 {
-        return true;
+    let last = pages.len() - 1;
+    let mut at = p;
+    let mut i: usize = 0;
+    loop {
+        let Slot::At(slot) = slot_in(pool, at, last - i, aim) else {
+            return false;
+        };
+        pages[i] = at;
+        slots[i] = slot;
+        if i == last {
+            return true;
+        }
+        let Below::Page(c) = child(pool, at, slot) else {
+            return false;
+        };
+        at = c;
+        i += 1;
     }
-    let Below::Page(c) = child(pool, p, i) else {
-        return false;
-    };
-    seek_below(pool, c, aim, &mut pages[1..], &mut slots[1..])
 }
 
 // The path of the aim's gap, root first.

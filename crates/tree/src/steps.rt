@@ -32,16 +32,16 @@ pub fn spot_after(pool: &[u64], pages: &[usize], slots: &[usize]) -> Spot
     requires { ⌜ PathIn (now pool) (now pages) (now slots) ⌝ }
     ensures { λ r. ⌜ SpotAfter (now (pool .entry)) (now (pages .entry)) (now (slots .entry)) r ⌝ }
 {
-    let n = pages.len();
-    if n == 0 {
-        return Spot::End;
+    let mut i = pages.len();
+    while 0 < i {
+        i -= 1;
+        let p = pages[i];
+        let s = slots[i];
+        if page::holds(pages::page_at(pool, p), MOST, s, 0) {
+            return Spot::At(p, s);
+        }
     }
-    let p = pages[n - 1];
-    let s = slots[n - 1];
-    if page::holds(pages::page_at(pool, p), MOST, s, 0) {
-        return Spot::At(p, s);
-    }
-    spot_after(pool, &pages[0..n - 1], &slots[0..n - 1])
+    Spot::End
 }
 
 // Where the entry before the path's gap stands: the deepest page of the path with an entry before its slot has it.
@@ -49,18 +49,18 @@ pub fn spot_before(pool: &[u64], pages: &[usize], slots: &[usize]) -> Spot
     requires { ⌜ PathIn (now pool) (now pages) (now slots) ⌝ }
     ensures { λ r. ⌜ SpotBefore (now (pool .entry)) (now (pages .entry)) (now (slots .entry)) r ⌝ }
 {
-    let n = pages.len();
-    if n == 0 {
-        return Spot::End;
-    }
-    let p = pages[n - 1];
-    let s = slots[n - 1];
-    if 0 < s {
-        if page::holds(pages::page_at(pool, p), MOST, s - 1, 0) {
-            return Spot::At(p, s - 1);
+    let mut i = pages.len();
+    while 0 < i {
+        i -= 1;
+        let p = pages[i];
+        let s = slots[i];
+        if 0 < s {
+            if page::holds(pages::page_at(pool, p), MOST, s - 1, 0) {
+                return Spot::At(p, s - 1);
+            }
         }
     }
-    spot_before(pool, &pages[0..n - 1], &slots[0..n - 1])
+    Spot::End
 }
 
 // The rest of the path goes down from child `at` of page `p`, to its start or its end.
@@ -109,43 +109,57 @@ fn over(
     Step::Unsound
 }
 
-// The entry after the path's gap, and the path of the gap after it.
+// The entry after the path's gap, and the path of the gap after it. From the leaf upward: the first page with an entry at its slot has it.
 pub fn next(pool: &[u64], pages: &mut [usize], slots: &mut [usize]) -> Step
     requires { ⌜ firstWord 0 ≤ length (now pool) ⌝ }
     requires { ⌜ PathIn (now pool) (now pages) (now slots) ⌝ }
     ensures { λ r. ⌜ Forth (now (pool .entry)) (now (pages .entry)) (now (slots .entry)) (now (pages .exit)) (now (slots .exit)) r ⌝ }
 {
-    if pages.len() == 0 {
-        return Step::End;
-    }
-    match next(pool, &mut pages[1..], &mut slots[1..]) {
-        Step::Entry(k, v) => Step::Entry(k, v),
-        Step::Unsound => Step::Unsound,
-        Step::End => {
-            let s = slots[0];
-            over(pool, s, s + 1, Aim::Start, pages, slots)
+    let mut i = pages.len();
+    while 0 < i {
+        i -= 1;
+        let s = slots[i];
+        match over(pool, s, s + 1, Aim::Start, &mut pages[i..], &mut slots[i..]) {
+            Step::End => {}
+            Step::Entry(k, v) => {
+                return Step::Entry(k, v);
+            }
+            Step::Unsound => {
+                return Step::Unsound;
+            }
         }
     }
+    Step::End
 }
 
-// The entry before the path's gap, and the path of the gap before it.
+// The entry before the path's gap, and the path of the gap before it. From the leaf upward: the first page with an entry before its slot has it.
 pub fn prev(pool: &[u64], pages: &mut [usize], slots: &mut [usize]) -> Step
     requires { ⌜ firstWord 0 ≤ length (now pool) ⌝ }
     requires { ⌜ PathIn (now pool) (now pages) (now slots) ⌝ }
     ensures { λ r. ⌜ Back (now (pool .entry)) (now (pages .entry)) (now (slots .entry)) (now (pages .exit)) (now (slots .exit)) r ⌝ }
 {
-    if pages.len() == 0 {
-        return Step::End;
-    }
-    match prev(pool, &mut pages[1..], &mut slots[1..]) {
-        Step::Entry(k, v) => Step::Entry(k, v),
-        Step::Unsound => Step::Unsound,
-        Step::End => {
-            let s = slots[0];
-            if s == 0 {
-                return Step::End;
+    let mut i = pages.len();
+    while 0 < i {
+        i -= 1;
+        let s = slots[i];
+        if 0 < s {
+            match over(
+                pool,
+                s - 1,
+                s - 1,
+                Aim::End,
+                &mut pages[i..],
+                &mut slots[i..],
+            ) {
+                Step::End => {}
+                Step::Entry(k, v) => {
+                    return Step::Entry(k, v);
+                }
+                Step::Unsound => {
+                    return Step::Unsound;
+                }
             }
-            over(pool, s - 1, s - 1, Aim::End, pages, slots)
         }
     }
+    Step::End
 }

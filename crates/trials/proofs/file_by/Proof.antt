@@ -1,7 +1,7 @@
 -- `trials::file_by` keeps to the contracts of the tree: the path that was found lies inside the pool. Assumes nothing.
 use mathlib.Core.Path.{_∙_}
-use borrow.Author.Tests.{not-false}
 use borrow.Author.Needs.{needs}
+use borrow.Author.Tests.{not-false}
 use Rattle.trials.proofs.file_by.Statement.{statement}
 use Rattle.trials.proofs.file_by.Tie as tie
 

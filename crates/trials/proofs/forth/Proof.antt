@@ -3,8 +3,8 @@ use mathlib.Core.Path.{_≡_, refl, _∙_}
 use Prim.Native.Nat.{_-_}
 use lib.ListN.{length}
 use borrow.Author.Needs.{needs}
-use Rattle.model.proofs.Cases.{contrary}
 use Rattle.tree.specs.Sits.{PathIn}
+use Rattle.model.proofs.Cases.{contrary}
 use Rattle.trials.proofs.forth.Statement.{statement}
 use Rattle.trials.proofs.forth.Tie as tie
 

@@ -1,7 +1,7 @@
 -- `trials::found` keeps to the contracts of the tree: a path for the levels that the head says. Assumes nothing.
 use mathlib.Core.Path.{sym, _∙_}
-use borrow.Author.Tests.{not-false}
 use borrow.Author.Needs.{needs}
+use borrow.Author.Tests.{not-false}
 use Rattle.trials.proofs.Lent.{first-long}
 use Rattle.trials.proofs.found.Statement.{statement}
 use Rattle.trials.proofs.found.Tie as tie

@@ -1,6 +1,6 @@
 -- `trials::found_by` hands on the path that was found, which lies inside the pool. Assumes nothing.
-use borrow.Author.Tests.{not-false}
 use borrow.Author.Needs.{needs}
+use borrow.Author.Tests.{not-false}
 use Rattle.trials.proofs.found_by.Statement.{statement}
 use Rattle.trials.proofs.found_by.Tie as tie
 

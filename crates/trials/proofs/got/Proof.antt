@@ -1,7 +1,7 @@
 -- `trials::got` searches where the head fits, and reads inside the table. Assumes nothing.
 use mathlib.Core.Path.{sym, _∙_}
-use borrow.Author.Tests.{not-false}
 use borrow.Author.Needs.{needs}
+use borrow.Author.Tests.{not-false}
 use Rattle.trials.proofs.got.Statement.{statement}
 use Rattle.trials.proofs.got.Tie as tie
 

@@ -1,7 +1,7 @@
 -- `trials::listed_by` hands on the path that was found, which lies inside the pool, and stays there. Assumes nothing.
 use native.Mathlib.Omega.{arith}
-use borrow.Author.Tests.{not-false}
 use borrow.Author.Needs.{needs}
+use borrow.Author.Tests.{not-false}
 use Rattle.tree.proofs.Heads.{head-long}
 use Rattle.trials.proofs.listed_by.Statement.{statement}
 use Rattle.trials.proofs.listed_by.Tie as tie

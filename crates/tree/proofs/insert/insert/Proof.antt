@@ -36,8 +36,8 @@ returns c =
     inserts-full (a .pool .now) (a .pages .now) (a .slots .now) _ (n .needed .result) (n .needed .ensures)
     (leb-false _ _ (sym (c .before .has-free .ensures) ∙ not-true _ (c .if2 .taken)))
 
-insert-below-requires : tie.Need-insert-below-requires
-insert-below-requires c κs = let n = c .before .before in (sized n, n .before .before .before .before .before .pre .1 .1)
+insert-along-requires : tie.Need-insert-along-requires
+insert-along-requires c κs = let n = c .before .before in (sized n, n .before .before .before .before .before .pre .1 .1)
 
 enum-told : tie.Need-enum-told
 enum-told c = search needs
@@ -57,13 +57,13 @@ new-root-requires c κs =
     let below = c .before .before .before .before .before .before .before in
     let n = below .before .before .before in
     let s = n .before .before .before .before .before in
-    let long = below .insert-below .ensures .long in
+    let long = below .insert-along .ensures .long in
     let z = sized n in
     omega (arith, s .pre .1 .0, head-facts (s .args .pool .now) (s .pre .0) .levels)
 
 topped : (c : tie.At-match-came) →
     let below = c .before .before .before in
-    Topped (below .before .before .before .before .before .before .before .before .args .pages .now) (below .insert-below .result) (below .insert-below .last .0) (c .match .pool)
+    Topped (below .before .before .before .before .before .before .before .before .args .pages .now) (below .insert-along .result) (below .insert-along .last .0) (c .match .pool)
 topped c = ⊎-elim
     (λ g. rw (g .1 .given .1) (g .2))
     (λ g. rw (g .1 .given .1, g .8, ← g .3 .ensures) (g .5 .ensures))
@@ -72,8 +72,8 @@ topped c = ⊎-elim
 long : (c : tie.At-match-came) → length (c .match .pool) ≡ length (c .before .before .before .before .before .before .before .before .before .before .before .args .pool .now)
 long c =
     let below = c .before .before .before in
-    topped-long (below .before .before .before .before .before .before .before .before .args .pages .now) (below .insert-below .result) (below .insert-below .last .0) (c .match .pool) (topped c)
-    ∙ below .insert-below .ensures .long
+    topped-long (below .before .before .before .before .before .before .before .before .args .pages .now) (below .insert-along .result) (below .insert-along .last .0) (c .match .pool) (topped c)
+    ∙ below .insert-along .ensures .long
 
 stored : (c : tie.At-match-came) → (firstWord 0 ≤ length (c .match .pool)) × (word (c .match .pool) 2 ≤ mostEntries least * mostPages)
 stored c =
@@ -86,8 +86,8 @@ stored c =
     omega (
       arith,
       long c,
-      topped-count (s .args .pages .now) (below .insert-below .result) (below .insert-below .last .0) (c .match .pool) (topped c),
-      front-word headWords w (below .insert-below .last .0) (below .insert-below .ensures .head) 2 (omega arith),
+      topped-count (s .args .pages .now) (below .insert-along .result) (below .insert-along .last .0) (c .match .pool) (topped c),
+      front-word headWords w (below .insert-along .last .0) (below .insert-along .ensures .head) 2 (omega arith),
       f .count,
       f .most,
     )
@@ -110,8 +110,8 @@ returns-2 c =
     let j = below .before .before in
     let n = j .before in
     let s = n .before .before .before .before .before in
-    inserts-done (s .args .pool .now) (s .args .pages .now) (s .args .slots .now) _ (n .needed .result) (below .insert-below .last .0) (below .insert-below .result) (c .before .match .pool)
-    (s .pre .0) (s .pre .1 .0) (n .needed .ensures) (enough j) (below .insert-below .ensures) (topped (c .before))
+    inserts-done (s .args .pool .now) (s .args .pages .now) (s .args .slots .now) _ (n .needed .result) (below .insert-along .last .0) (below .insert-along .result) (c .before .match .pool)
+    (s .pre .0) (s .pre .1 .0) (n .needed .ensures) (enough j) (below .insert-along .ensures) (topped (c .before))
 
 pub insert-spec : {M : Type 1} → statement M
 insert-spec =
@@ -121,7 +121,7 @@ insert-spec =
     has-free-requires
     same-length
     returns
-    insert-below-requires
+    insert-along-requires
     enum-told
     enum-known-k
     root-of-requires

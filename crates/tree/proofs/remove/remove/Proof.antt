@@ -42,8 +42,8 @@ returns-2 c =
 some : (c : tie.Else1) → 1 ≤ length (c .before .before .before .before .args .pages .now)
 some c = omega (arith, c .if1 .left)
 
-remove-below-requires : tie.Need-remove-below-requires
-remove-below-requires c κs =
+remove-along-requires : tie.Need-remove-along-requires
+remove-along-requires c κs =
     let e = c .before .before .before .before in
     ((sized e .0, some e), e .before .before .before .before .pre .1 .1)
 
@@ -61,14 +61,14 @@ lower-root-requires c κs =
     let l = some e in
     omega (
       arith,
-      below .remove-below .ensures .long,
+      below .remove-along .ensures .long,
       all-at (λ p. Inside p w) ps 0 0 l (s .pre .1 .1 .inside),
       s .pre .1 .0,
       head-facts w (s .pre .0) .levels,
     )
 
 long : (c : tie.After-lower-root) → length (c .lower-root .last .0) ≡ length (c .before .before .before .before .before .before .before .before .before .before .before .before .before .before .args .pool .now)
-long c = c .lower-root .ensures .long ∙ c .before .before .before .before .before .remove-below .ensures .long
+long c = c .lower-root .ensures .long ∙ c .before .before .before .before .before .remove-along .ensures .long
 
 stored : (c : tie.After-lower-root) → (firstWord 0 ≤ length (c .lower-root .last .0)) × (1 ≤ word (c .lower-root .last .0) 2)
 stored c =
@@ -82,7 +82,7 @@ stored c =
       arith,
       long c,
       c .lower-root .ensures .count,
-      front-word headWords w (below .remove-below .last .0) (below .remove-below .ensures .head) 2 (omega arith),
+      front-word headWords w (below .remove-along .last .0) (below .remove-along .ensures .head) 2 (omega arith),
       count-some w (s .pre .0) (omega (arith, s .pre .1 .0)),
     )
 
@@ -103,8 +103,8 @@ returns-3 c =
     let lower = c .before .before .before in
     let below = lower .before .before .before .before .before in
     let s = below .before .before .before .before .before .before .before .before .before in
-    removes-done (s .args .pool .now) (s .args .pages .now) (s .args .slots .now) (below .remove-below .last .0) (lower .lower-root .last .0) (below .remove-below .result)
-    (s .pre .0) (s .pre .1 .0) (below .remove-below .ensures) (lower .lower-root .ensures)
+    removes-done (s .args .pool .now) (s .args .pages .now) (s .args .slots .now) (below .remove-along .last .0) (lower .lower-root .last .0) (below .remove-along .result)
+    (s .pre .0) (s .pre .1 .0) (below .remove-along .ensures) (lower .lower-root .ensures)
 
 pub remove-spec : {M : Type 1} → statement M
 remove-spec =
@@ -114,7 +114,7 @@ remove-spec =
     can-remove-requires
     same-length
     returns-2
-    remove-below-requires
+    remove-along-requires
     shared-slice-read-lower-root
     lower-root-requires
     slice-read-pool
