@@ -24,6 +24,21 @@ pub const LEAST: usize = 4;
 
 pub const KEPT: usize = 5;
 
+// Words of the head: the entry count, the root's page plus 1, the levels; the cursor's three; the kind.
+pub const COUNT: usize = 2;
+
+pub const ROOT: usize = 3;
+
+pub const LEVELS: usize = 4;
+
+pub const OPEN: usize = 5;
+
+pub const AFTER: usize = 6;
+
+pub const KEY: usize = 7;
+
+pub const KIND: usize = 8;
+
 // The first word of page `p`; of page P, the length of a pool of P pages.
 pub fn first_word(p: usize) -> usize
     requires { ⌜ p ≤ mostPages ⌝ }

@@ -17,8 +17,15 @@ use crate::pages;
 use crate::search;
 use crate::search::Below;
 use crate::search::Got;
+use model::AFTER;
+use model::COUNT;
+use model::KEY;
+use model::KIND;
 use model::LEAST;
+use model::LEVELS;
 use model::MOST;
+use model::OPEN;
+use model::ROOT;
 
 // What a walk has met so far: pages, entries and the last key; or that the pool is not sound.
 pub enum Tally {
@@ -63,7 +70,7 @@ fn fits_kind(pool: &[u64], value: u64) -> bool
     requires { ⌜ firstWord 0 ≤ length (now pool) ⌝ }
     ensures { λ r. ⌜ r ≡ valueFits (now (pool .entry)) value ⌝ }
 {
-    if pool[8] == 1 {
+    if pool[KIND] == 1 {
         return value == 0;
     }
     true
@@ -144,18 +151,23 @@ fn cursor(pool: &[u64]) -> bool
     requires { ⌜ headed (now pool) ≡ true ⌝ }
     ensures { λ r. ⌜ CursorIs (now (pool .entry)) r ⌝ }
 {
-    if pool[6] == 0 {
-        return pool[7] == 0;
+    if pool[AFTER] == 0 {
+        return pool[KEY] == 0;
     }
-    if pool[5] == 0 {
+    if pool[OPEN] == 0 {
         return false;
     }
-    let levels = pool[4] as usize;
+    let levels = pool[LEVELS] as usize;
     if levels == 0 {
         return false;
     }
-    let Got::Value(_, _) = search::get_below(pool, pool[3] as usize - 1, levels - 1, pool[7], 0)
-    else {
+    let Got::Value(_, _) = search::get_below(
+        pool,
+        pool[ROOT] as usize - 1,
+        levels - 1,
+        pool[KEY],
+        0,
+    ) else {
         return false;
     };
     true
@@ -168,20 +180,20 @@ pub fn check(pool: &[u64]) -> bool
     if !head::fits(pool) {
         return false;
     }
-    let levels = pool[4] as usize;
+    let levels = pool[LEVELS] as usize;
     if levels == 0 {
         if bits::taken(pool) != 0 {
             return false;
         }
         return cursor(pool);
     }
-    let Tally::Of(a, b, _) = walk(pool, pool[3] as usize - 1, levels - 1, 1, 0, 0, 0) else {
+    let Tally::Of(a, b, _) = walk(pool, pool[ROOT] as usize - 1, levels - 1, 1, 0, 0, 0) else {
         return false;
     };
     if a != bits::taken(pool) {
         return false;
     }
-    if b as u64 != pool[2] {
+    if b as u64 != pool[COUNT] {
         return false;
     }
     cursor(pool)

@@ -9,12 +9,18 @@ ghost use Rattle.model.specs.Lists.{every};
 ghost use Rattle.model.specs.Layout.{headWords, mostPages, mostLevels};
 ghost use Rattle.model.specs.Head.{levelsWord, spareWords, bothOrNeither, numberTests, headed};
 ghost use Rattle.model.specs.Layout as layout;
+use model::AFTER;
+use model::COUNT;
 use model::FIRST_PAGE;
 use model::HEAD_WORDS;
+use model::KIND;
+use model::LEVELS;
 use model::MOST;
 use model::MOST_LEVELS;
 use model::MOST_PAGES;
+use model::OPEN;
 use model::PAGE_WORDS;
+use model::ROOT;
 
 // The first of the words that are 0.
 const SPARE: usize = 9;
@@ -65,31 +71,31 @@ fn numbers(pool: &[u64], pages: u64) -> bool
     if pool[1] != pages {
         return false;
     }
-    if MOST as u64 * pages < pool[2] {
+    if MOST as u64 * pages < pool[COUNT] {
         return false;
     }
-    if pages < pool[3] {
+    if pages < pool[ROOT] {
         return false;
     }
-    if (MOST_LEVELS as u64) < pool[4] {
+    if (MOST_LEVELS as u64) < pool[LEVELS] {
         return false;
     }
-    if 1 < pool[5] {
+    if 1 < pool[OPEN] {
         return false;
     }
-    if 1 < pool[6] {
+    if 1 < pool[AFTER] {
         return false;
     }
-    if 1 < pool[8] {
+    if 1 < pool[KIND] {
         return false;
     }
-    if 1 < pool[8] + pool[5] {
+    if 1 < pool[KIND] + pool[OPEN] {
         return false;
     }
-    if !both_or_neither(pool[2], pool[3]) {
+    if !both_or_neither(pool[COUNT], pool[ROOT]) {
         return false;
     }
-    both_or_neither(pool[2], pool[4])
+    both_or_neither(pool[COUNT], pool[LEVELS])
 }
 
 // Whether the length is allowed and the head fits.
@@ -111,5 +117,5 @@ pub fn levels(pool: &[u64]) -> usize
     requires { ⌜ headed (now pool) ≡ true ⌝ }
     ensures { λ r. ⌜ (r ≡ levelsWord (now (pool .entry))) × (r ≤ mostLevels) ⌝ }
 {
-    pool[4] as usize
+    pool[LEVELS] as usize
 }

@@ -1,5 +1,5 @@
-// Insertion along a path, at its gap. The pages it needs are counted first, from the leaf upward, and free pages only where one is needed. Then a new key goes into the leaf,
-// and what a page hands up goes into the page above it, from the leaf upward.
+// Insertion along a path, at its gap. The pages it needs are counted first, from the leaf upward, and free pages only where one is needed. Then the new entry goes into the
+// leaf, and what a page hands up goes into the page above it.
 ghost use mathlib.Core.Path.{_≡_};
 ghost use mathlib.Core.Bool.{true};
 ghost use Prim.Native.Nat.{_≤_};
@@ -13,7 +13,10 @@ ghost use Rattle.tree.specs.Sits.{Sized, PathIn};
 ghost use Rattle.tree.specs.Insert.{runOn, Needs, Puts, InsertsBelow, NewRoots, Inserts};
 use crate::bits;
 use crate::pages;
+use model::COUNT;
+use model::LEVELS;
 use model::MOST;
+use model::ROOT;
 use page::Parting;
 use pagemap::Lowest;
 
@@ -120,8 +123,8 @@ fn new_root(pool: &mut [u64], levels: usize, key: u64, value: u64, left: u64, ri
         return;
     };
     pages::single(pool, q, levels as u64, key, value, left, right);
-    pool[3] = q as u64 + 1;
-    pool[4] = levels as u64 + 1;
+    pool[ROOT] = q as u64 + 1;
+    pool[LEVELS] = levels as u64 + 1;
 }
 
 // An entry at the path's gap.
@@ -144,6 +147,6 @@ pub fn insert(pool: &mut [u64], pages: &[usize], slots: &[usize], key: u64, valu
             new_root(pool, pages.len(), k, v, left, right);
         }
     }
-    pool[2] = pool[2] + 1;
+    pool[COUNT] = pool[COUNT] + 1;
     Inserted::Done
 }

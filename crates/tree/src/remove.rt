@@ -18,8 +18,11 @@ use crate::bits;
 use crate::pages;
 use crate::search;
 use crate::search::Below;
+use model::COUNT;
 use model::LEAST;
+use model::LEVELS;
 use model::MOST;
+use model::ROOT;
 use page::Change;
 
 // What a removal below hands up: nothing, or the last entry below, which is to take the place of the one after it.
@@ -247,16 +250,16 @@ fn lower_root(pool: &mut [u64], root: usize, levels: usize)
         return;
     }
     if levels == 1 {
-        pool[3] = 0;
-        pool[4] = 0;
+        pool[ROOT] = 0;
+        pool[LEVELS] = 0;
         bits::free(pool, root);
         return;
     }
     let Below::Page(c) = search::child(pool, root, 0) else {
         return;
     };
-    pool[3] = c as u64 + 1;
-    pool[4] = levels as u64 - 1;
+    pool[ROOT] = c as u64 + 1;
+    pool[LEVELS] = levels as u64 - 1;
     bits::free(pool, root);
 }
 
@@ -275,6 +278,6 @@ pub fn remove(pool: &mut [u64], pages: &[usize], slots: &[usize]) -> Change
     }
     remove_along(pool, pages, slots);
     lower_root(pool, pages[0], pages.len());
-    pool[2] = pool[2] - 1;
+    pool[COUNT] = pool[COUNT] - 1;
     Change::Done
 }

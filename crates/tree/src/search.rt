@@ -10,7 +10,9 @@ ghost use Rattle.tree.specs.Pages.{Inside};
 ghost use Rattle.tree.specs.Search.{belowOf, placeAt, lastAt, slotOf, GetsBelow, Gets, SeeksBelow, Seeks};
 use crate::bits;
 use crate::pages;
+use model::LEVELS;
 use model::MOST;
+use model::ROOT;
 use page::Place;
 
 // A child's page, where it lies inside the pool.
@@ -100,11 +102,11 @@ pub fn get(pool: &[u64], key: u64) -> Got
     requires { ⌜ headed (now pool) ≡ true ⌝ }
     ensures { λ r. ⌜ Gets (now (pool .entry)) key r ⌝ }
 {
-    let levels = pool[4] as usize;
+    let levels = pool[LEVELS] as usize;
     if levels == 0 {
         return Got::Absent;
     }
-    let root = pool[3] as usize - 1;
+    let root = pool[ROOT] as usize - 1;
     get_below(pool, root, levels - 1, key, 0)
 }
 
@@ -190,6 +192,6 @@ pub fn seek(pool: &[u64], aim: Aim, pages: &mut [usize], slots: &mut [usize]) ->
     if pages.len() == 0 {
         return true;
     }
-    let root = pool[3] as usize - 1;
+    let root = pool[ROOT] as usize - 1;
     seek_below(pool, root, aim, pages, slots)
 }
