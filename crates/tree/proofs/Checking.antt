@@ -137,14 +137,14 @@ module _ (w : List ℕ) (h p : ℕ) (f : Fine w h p 1) where
 -- ---- a head that fits
 
 -- where there are levels there is a root, inside the pool
-pub record Rooted (w : List ℕ) : Type 0 where
+pub record RootThere (w : List ℕ) : Type 0 where
   pub some : 1 ≤ rootWord w
   pub inside : Inside (rootWord w - 1) w
   pub deep : levelsWord w - 1 < mostLevels
   pub is : rootWord w - 1 ≡ pred (rootWord w)
 
-pub head-rooted : (w : List ℕ) → headed w ≡ true → (levelsWord w ≡ 0 → ⊥) → Rooted w
-head-rooted w e n =
+pub root-there : (w : List ℕ) → headed w ≡ true → (levelsWord w ≡ 0 → ⊥) → RootThere w
+root-there w e n =
     let root = head-root w e (omega arith) in
     let some = root .0 in
     let levels = head-levels w e in
@@ -272,7 +272,7 @@ module _ (w : List ℕ) (head : headed w ≡ true) where
   pub walk-root : (r : Tally) → (levelsWord w ≡ 0 → ⊥) → Walks w (rootWord w - 1) (levelsWord w - 1) 1 0 0 0 r → overTree w h p 1 (tally.Of 0 0 0) ≡ r
   walk-root r n x =
       let up : suc (levelsWord w - 1) ≡ levelsWord w = omega arith in
-      let is = head-rooted w head n .is in
+      let is = root-there w head n .is in
       sym (x .exact ∙ rw (up, is))
 
   -- a tree of no levels

@@ -138,9 +138,9 @@ module _ (m low h : ℕ) (t : Tree (suc h)) (s : Shaped m low (suc h) t) (g : �
       omega (arith, w .place)
 
 -- the first gap is the first child's
-pub first-slot : (m low h : ℕ) (t : Tree (suc h)) → Shaped m low (suc h) t → slotAt h t 0 ≡ 0
+pub start-slot : (m low h : ℕ) (t : Tree (suc h)) → Shaped m low (suc h) t → slotAt h t 0 ≡ 0
 unfolding Shaped
-first-slot m low h t s =
+start-slot m low h t s =
     let k = s .forks in
     let l : Located (entries h) (t .children) (t .own) (noTree h) 0 0 0 = record { inside = omega arith; place = refl; fits = omega arith } in
     located-slot (entries h) (t .children) (t .own) (noTree h) k l .0

@@ -27,7 +27,7 @@ use Rattle.model.proofs.Gap.{way-down, child-shaped}
 use Rattle.model.proofs.Path.{slot-at-end, rest-at-end}
 use Rattle.page.proofs.Pages.{holds-facts}
 use Rattle.tree.proofs.Sitting.{sits-child, sits-slot, sits-rest}
-use Rattle.tree.proofs.Seams.{next-seam, prev-under, prev-seam, prev-first, first-slot}
+use Rattle.tree.proofs.Seams.{next-seam, prev-under, prev-seam, prev-first, start-slot}
 use Rattle.tree.proofs.Turning.{holds-own}
 
 -- ---- along a path of any pages
@@ -166,7 +166,7 @@ module _ (w : List ℕ) where
       → orElse (spotBefore h (childAt h t g) r) (hereBefore w (t .page) i) ≡ spotBefore (suc h) t g
   unfolding hereBefore spotOf
   before-page low h t zero (suc r) i u b er ei = absurd (omega (arith, way-down least low h t 0 (u .shaped) b .place))
-  before-page low h t zero zero (suc i) u b er ei = absurd (omega (arith, first-slot least low h t (u .shaped)))
+  before-page low h t zero zero (suc i) u b er ei = absurd (omega (arith, start-slot least low h t (u .shaped)))
   before-page low h t zero zero zero u b er ei = refl
   before-page low h t (suc g) (suc r) i u b er ei =
       let v = sits-child w low h t u (slotAt h t (suc g)) (sits-slot w low h t u (suc g) b) in

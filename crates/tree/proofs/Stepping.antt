@@ -25,7 +25,7 @@ use Rattle.model.proofs.Gap.{way-down}
 use Rattle.model.proofs.Search.{child-rising, seek-pages, seek-slots, path-long}
 use Rattle.tree.proofs.Sitting.{sits-child, sits-forks, sits-slot, sits-rest}
 use Rattle.tree.proofs.Seeking.{falls-aim}
-use Rattle.tree.proofs.Seams.{next-under, next-seam, next-seam-gap, prev-under, prev-seam, prev-first, first-slot}
+use Rattle.tree.proofs.Seams.{next-under, next-seam, next-seam-gap, prev-under, prev-seam, prev-first, start-slot}
 
 -- ---- the two directions
 
@@ -94,7 +94,7 @@ backward = record {
 
 pub backward-seam : (m low h : ℕ) (t : Tree (suc h)) (g j : ℕ) → Shaped m low (suc h) t → g ≤ size (suc h) t → restAt h t g ≤ size h (childAt h t g)
     → prev (restAt h t g) (entries h (childAt h t g)) ≡ none → slotAt h t g ≡ suc j → Seam prev back End j j h t g
-backward-seam m low h t zero j s b f q i = absurd (omega (arith, first-slot m low h t s))
+backward-seam m low h t zero j s b f q i = absurd (omega (arith, start-slot m low h t s))
 backward-seam m low h t (suc g) j s b f q i =
     let r = prev-seam m low h t s g b (prev-start (entries h (childAt h t (suc g))) (restAt h t (suc g)) f q) j i in
     record {

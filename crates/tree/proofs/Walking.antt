@@ -157,9 +157,9 @@ module _ (w : List ℕ) (p h low pages count last : ℕ) where
       none (suc h) z = absurd (omega arith)
 
   -- its page lies inside the pool
-  pub below-page : (i c : ℕ) → below.Page c ≡ belowOf w p i → (c ≡ child w p i) × (c < pagesIn (length w))
+  pub below-found : (i c : ℕ) → below.Page c ≡ belowOf w p i → (c ≡ child w p i) × (c < pagesIn (length w))
   unfolding belowOf
-  below-page i c e =
+  below-found i c e =
       either (leb i most)
       (λ y. let e₁ = rw y at e in
       either (ltb (child w p i) (pagesIn (length w)))
@@ -175,7 +175,7 @@ module _ (w : List ℕ) (p h low pages count last : ℕ) where
   pub child-some : (i c a b k a₁ b₁ k₁ : ℕ) → 0 < h → below.Page c ≡ belowOf w p i → Walks w c (h - 1) least a b k (tally.Of a₁ b₁ k₁)
       → Child i a b k a₁ b₁ k₁
   child-some i c a b k a₁ b₁ k₁ l e x =
-      record { few = x .few .0; more = x .few .1; walked = child-exact i c a b k (tally.Of a₁ b₁ k₁) l (below-page i c e .0) x }
+      record { few = x .few .0; more = x .few .1; walked = child-exact i c a b k (tally.Of a₁ b₁ k₁) l (below-found i c e .0) x }
 
   module _ (n i a b k : ℕ) (g : Going n i a b k) (is : n ≡ countOf (pageOf w p)) where
     pub going-step : (a₁ b₁ k₁ a₂ b₂ k₂ : ℕ) → i ≤ n → Child i a b k a₁ b₁ k₁ → tally.Of a₂ b₂ k₂ ≡ overEntryAt w p i n (tally.Of a₁ b₁ k₁)
@@ -226,7 +226,7 @@ module _ (w : List ℕ) (p h low pages count last : ℕ) where
 
     pub walk-broken : (c : ℕ) → i ≤ n → 0 < h → below.Page c ≡ belowOf w p i → Walks w c (h - 1) least a b k tally.Broken
         → Walks w p h low pages count last tally.Broken
-    walk-broken c l z e x = child-broken l (child-exact i c a b k tally.Broken z (below-page i c e .0) x)
+    walk-broken c l z e x = child-broken l (child-exact i c a b k tally.Broken z (below-found i c e .0) x)
 
     pub entry-broken : (a₁ b₁ k₁ : ℕ) → i ≤ n → Child i a b k a₁ b₁ k₁ → tally.Broken ≡ overEntryAt w p i n (tally.Of a₁ b₁ k₁)
         → Walks w p h low pages count last tally.Broken

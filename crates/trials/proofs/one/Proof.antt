@@ -1,4 +1,4 @@
--- `trials::one` takes a place of the table. Assumes nothing.
+-- `one` takes a place of the table. Assumes nothing.
 use Prim.Native.Nat.{_/_}
 use native.Mathlib.Nat.{mod-lt}
 use native.Mathlib.Omega.{arith}

@@ -1,4 +1,4 @@
--- `trials::trial` keeps the lengths of its pool and of its table, and ends. Assumes nothing.
+-- `trial` keeps the lengths of its pool and of its table, and ends. Assumes nothing.
 use mathlib.Core.Path.{_≡_}
 use Prim.Native.Nat.{_-_}
 use lib.ListN.{length}

@@ -18,7 +18,7 @@ use Rattle.tree.specs.Pages.{most}
 use Rattle.tree.specs.Search.{belowOf}
 use Rattle.tree.specs.Check.{standTests, Walks}
 use Rattle.model.proofs.Lists.{every-true}
-use Rattle.tree.proofs.Walking.{Going, Child, stand-broken, going-start, child-none, child-some, below-page, below-broken, walk-broken, entry-broken, going-step, going-end}
+use Rattle.tree.proofs.Walking.{Going, Child, stand-broken, going-start, child-none, child-some, below-found, below-broken, walk-broken, entry-broken, going-step, going-end}
 use Rattle.tree.proofs.check.+walk.{statement}
 use Rattle.tree.proofs.check.+walk.Lts-walk as lts
 use Rattle.tree.proofs.check.walk.Kinds as walk-kinds
@@ -154,7 +154,7 @@ module _ (t : ℕ) where
       let a = s .args in
       let loop = then-of c .before .before .loop in
       let up = then-of c .if2 .taken in
-      let inside = below-page (a .pool .now) (a .p) (a .h) (a .low) (a .pages) (a .entries) (a .last) (loop .i) (c .before .c .given .0 .0) (child-is c) .1 in
+      let inside = below-found (a .pool .now) (a .p) (a .h) (a .low) (a .pages) (a .entries) (a .last) (loop .i) (c .before .c .given .0 .0) (child-is c) .1 in
       let pre = s .pre in
       let pages = loop .inv .few in
       (omega arith, (omega arith, omega arith, pages, omega arith, few (then-of c .before)))

@@ -11,7 +11,7 @@ use Rattle.tree.specs.declared.check.Tally.the-variants as tally
 use Rattle.tree.specs.Check.{overTree, Walks}
 use Rattle.model.proofs.Head.{head-facts}
 use Rattle.tree.proofs.Heads.{head-long}
-use Rattle.tree.proofs.Checking.{head-rooted, check-head, check-through, check-pages, check-entries, check-broken, walk-root, over-none, count-none}
+use Rattle.tree.proofs.Checking.{root-there, check-head, check-through, check-pages, check-entries, check-broken, walk-root, over-none, count-none}
 use Rattle.tree.proofs.check.check.Statement.{statement}
 use Rattle.tree.proofs.check.check.Tie as tie
 
@@ -61,7 +61,7 @@ shared-slice-read-walk : tie.Need-shared-slice-read-walk
 shared-slice-read-walk c = let long = head-long _ (fitting (c .before .before .before)) in omega arith
 
 sub-walk : tie.Need-sub-walk
-sub-walk c = head-rooted _ (fitting (c .before .before .before)) (c .before .if2 .left) .some
+sub-walk c = root-there _ (fitting (c .before .before .before)) (c .before .if2 .left) .some
 
 sub-walk-2 : tie.Need-sub-walk-2
 sub-walk-2 c = search needs
@@ -71,7 +71,7 @@ walk-requires c κs =
     let past = c .before .before .before in
     let w = past .before .before .before .args .pool .now in
     let long = head-long w (fitting past) in
-    let root = head-rooted w (fitting past) (c .before .if2 .left) in
+    let root = root-there w (fitting past) (c .before .if2 .left) in
     let most = head-facts w (fitting past) .most in
     (omega arith, root .inside, omega arith, most, omega arith)
 

@@ -10,7 +10,7 @@ use Rattle.tree.specs.declared.search.Got.{Got}
 use Rattle.tree.specs.declared.search.Got.the-variants as got
 use Rattle.tree.specs.Search.{GetsBelow}
 use Rattle.tree.proofs.Heads.{head-long}
-use Rattle.tree.proofs.Checking.{head-rooted, cursor-start, cursor-closed, cursor-empty, cursor-lost, cursor-found}
+use Rattle.tree.proofs.Checking.{root-there, cursor-start, cursor-closed, cursor-empty, cursor-lost, cursor-found}
 use Rattle.tree.proofs.search.Got.{the-type}
 use Rattle.tree.proofs.check.cursor.Statement.{statement}
 use Rattle.tree.proofs.check.cursor.Tie as tie
@@ -50,7 +50,7 @@ shared-slice-read-get-below c =
     omega arith
 
 sub-get-below : tie.Need-sub-get-below
-sub-get-below c = let s = c .before .before .before .before .before .before .before .before in head-rooted (s .args .pool .now) (s .pre) (c .before .if3 .left) .some
+sub-get-below c = let s = c .before .before .before .before .before .before .before .before in root-there (s .args .pool .now) (s .pre) (c .before .if3 .left) .some
 
 sub-get-below-2 : tie.Need-sub-get-below-2
 sub-get-below-2 c = search needs
@@ -65,7 +65,7 @@ get-below-requires : tie.Need-get-below-requires
 get-below-requires c κs =
     let s = c .before .before .before .before .before .before .before .before .before in
     let long = head-long (s .args .pool .now) (s .pre) in
-    let root = head-rooted (s .args .pool .now) (s .pre) (c .before .before .if3 .left) in
+    let root = root-there (s .args .pool .now) (s .pre) (c .before .before .if3 .left) in
     let deep = root .deep in
     (omega arith, root .inside, omega arith)
 
@@ -84,7 +84,7 @@ returns-4 c =
     let s = past .before .before .before .before .before .before .before in
     let w = s .args .pool .now in
     let some = past .if3 .left in
-    let root = head-rooted w (s .pre) some in
+    let root = root-there w (s .pre) some in
     cursor-lost w (s .pre) (past .before .before .before .before .if1 .left) (levelsWord w - 1) (rootWord w - 1) (omega arith) (root .is)
     (c .before .get-below .result) (c .before .get-below .ensures) (no-value (c .before .get-below .result) (c .match .keys2))
 
@@ -95,7 +95,7 @@ returns-5 c =
     let s = past .before .before .before .before .before .before .before in
     let w = s .args .pool .now in
     let some = past .if3 .left in
-    let root = head-rooted w (s .pre) some in
+    let root = root-there w (s .pre) some in
     cursor-found w (s .pre) (past .before .before .before .before .if1 .left) (levelsWord w - 1) (rootWord w - 1) (omega arith) (root .is)
     (c .enum-told .given .0 .0) (c .enum-told .given .0 .1 .0) (past .before .before .if2 .left)
     (subst (λ (r : Got). GetsBelow w (rootWord w - 1) (levelsWord w - 1) (keyWord w) 0 r) (c .enum-told .given .1) (call .get-below .ensures))
