@@ -131,6 +131,20 @@ gap-unique before (e ∷ es) zero b front back = rw (back (omega arith))
 gap-unique before (e ∷ es) (suc g) b front back =
     rw (front 0 (omega arith)) (ap suc (gap-unique before es g (omega arith) (λ i l. front (suc i) (omega arith)) (λ l. back (omega arith))))
 
+-- an entry behind i of them that comes before is one more
+pub gap-more : (before : ℕ → Bool) (es : List Entry) (i : ℕ) → i ≤ gapOf before es → i < length es → before (keyAt es i) ≡ true → i < gapOf before es
+unfolding gapOf
+gap-more before [] i l b y = absurd (omega arith)
+gap-more before (e ∷ es) zero l b y = rw y (omega arith)
+gap-more before (e ∷ es) (suc i) l b y =
+    either (before (e .key))
+    (λ t. let z = rw t at l in rw t (omega (arith, gap-more before es i (omega arith) (omega arith) y)))
+    (λ n. absurd (let z = rw n at l in omega arith))
+
+-- where there is none, or one that does not, these are all
+pub gap-ends : (before : ℕ → Bool) (es : List Entry) (i : ℕ) → i ≤ gapOf before es → (i < length es → before (keyAt es i) ≡ false) → gapOf before es ≡ i
+gap-ends before es i l n = gap-unique before es i (omega (arith, gap-le before es)) (λ j m. gap-front before es j (omega arith)) n
+
 -- ---- which keys are there
 
 -- below the first entry there is no key
@@ -349,6 +363,16 @@ those-slice low high (e ∷ es) fl fh r =
     (λ nh.
     let z = ih ∙ rw (gap-none high e es fh (r .0) nh) (drop-nil (gapOf low es)) in
     either (low (e .key)) (λ yl. rw (yl, nh) z) (λ nl. rw (nl, nh) z))
+
+-- the entries behind gap g that come before
+pub gap-slice : (before : ℕ → Bool) (g : ℕ) (es : List Entry) → Falls before → Rising es → take (gapOf before (drop g es)) (drop g es) ≡ drop g (take (gapOf before es) es)
+unfolding gapOf
+gap-slice before zero es f r = refl
+gap-slice before (suc g) [] f r = refl
+gap-slice before (suc g) (e ∷ es) f r =
+    either (before (e .key))
+    (λ y. rw y (gap-slice before g es f (r .1)))
+    (λ n. rw (n, gap-none before e (drop g es) f (all-drop (λ x. e .key < x .key) g es (r .0)) n))
 
 pub inside-slice : (low high : Bound) (es : List Entry) → Rising es
     → between low high es ≡ drop (gapOf (beforeLower low) es) (take (gapOf (beforeUpper high) es) es)

@@ -33,5 +33,11 @@ pub mod Keeps
 pub mod Written
 pub mod Copy
 pub mod Alike
+-- how a call comes to meet its promise
+pub mod Meets
+-- the source's clauses, of the calls
+pub mod SourceMap
+pub mod SourceSet
+pub mod SourceList
 -- the bench cases
 pub mod Bench

@@ -4,13 +4,13 @@ use mathlib.Core.Path.{_≡_, refl, sym, ap, _∙_, ap₂}
 use mathlib.Core.Bool.{Bool, true, false, cond}
 use mathlib.Core.Option.{none, some}
 use mathlib.Core.List.{List, [], _∷_, _++_, map, append-assoc, map-append}
-use Prim.Native.Nat.{ℕ, zero, suc, _+_, _≤_, _<_}
+use Prim.Native.Nat.{ℕ, zero, suc, min, _+_, _≤_, _<_}
 use native.Mathlib.Nat.{zero-add, suc-add}
 use native.Mathlib.Omega.{arith}
 use lib.ListN.{length, take, drop, getD, set, length-append, length-take, length-drop, getElem?, List·getD-append}
-use lib.Seq.{take-append-le, drop-append-le, take-append-add, drop-append-add, split-at, drop-cons, set-split, set-append-left, set-append-seam, length-take-le, getD-at, getD-take, map-set-same}
+use lib.Seq.{take-append-le, drop-append-le, take-append-add, drop-append-add, split-at, drop-cons, set-split, set-append-left, set-append-seam, length-take-le, getD-at, getD-take, map-set-same, take-take, take-all}
 use Rattle.model.specs.Lists.{ins, splice, tab, All, final, every, del}
-use Rattle.model.proofs.Cases.{contrary}
+use Rattle.model.proofs.Cases.{contrary, either-le}
 
 module _ {A : Type 0} where
   pub length-ins : (g : ℕ) (x : A) (l : List A) → g ≤ length l → length (ins g x l) ≡ suc (length l)
@@ -225,6 +225,12 @@ module _ {A : Type 0} where
 pub all-image : {S U : Type 0} (f : S → U) (P : U → Type 0) (l : List S) → All (λ x. P (f x)) l → All P (map f l)
 all-image f P [] a = tt
 all-image f P (x ∷ l) a = (a .0, all-image f P l (a .1))
+
+pub take-min : {A : Type 0} (n m : ℕ) (xs : List A) → take (min n m) xs ≡ take n (take m xs)
+take-min n m xs =
+    either-le n m
+    (λ l. let e : min n m ≡ n = omega arith in rw e (sym (take-take n m xs l)))
+    (λ l. let e : min n m ≡ m = omega arith in rw e (sym (take-all n (take m xs) (simp length-take (omega arith)))))
 
 -- ---- tests
 

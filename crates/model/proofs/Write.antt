@@ -1,4 +1,4 @@
--- An entry overwritten in its place: the entries are those of before but for that one, the pages are the same, and the tree keeps its shape.
+-- An entry overwritten in its place: the entries are those of before but for that one, the pages are the same, and the tree keeps its shape. One like it changes nothing.
 -- First of lists and of one page, over a function `f` that says what a child holds; then of trees.
 -- Assumes nothing.
 use mathlib.Core.Path.{_≡_, refl, sym, ap, ap₂, _∙_}
@@ -6,16 +6,16 @@ use mathlib.Core.List.{List, _∷_, _++_}
 use Prim.Native.Nat.{ℕ, zero, suc, _≤_, _<_}
 use native.Mathlib.Omega.{arith}
 use lib.ListN.{length, take, drop, getD, set, length-append, length-take, length-set, drop-of-length-le}
-use lib.Seq.{set-split, split-at}
+use lib.Seq.{set-split, split-at, set-getD}
 use borrow.Author.Tests.{lt-ltb, le-ltb}
-use Rattle.model.specs.Tree.{Entry, Tree, Whole, noTree, weave, entries, size, times, Shaped, held, meets, Formed}
+use Rattle.model.specs.Tree.{Entry, noEntry, Tree, Whole, noTree, weave, entries, size, times, Shaped, held, meets, Formed}
 use Rattle.model.specs.Gap.{slotAt, restAt, childAt}
 use Rattle.model.specs.Write.{writeAt, write}
 use Rattle.model.proofs.Cases.{either-lt}
 use Rattle.model.proofs.Lists.{splice-one, all-set, set-inside, set-seam}
 use Rattle.model.proofs.Sums.{sum-set-same}
 use Rattle.model.proofs.Weave.{left, right, weave-hole, weave-at, weave-one}
-use Rattle.model.proofs.Gap.{Located, way-down, child-shaped}
+use Rattle.model.proofs.Gap.{Located, way-down, child-shaped, located-below, located-here}
 
 -- ---- one page
 
@@ -95,6 +95,25 @@ write-at-shaped m low (suc h) t g e s b =
     rw (le-ltb r (size h c) outer)
     (record { forks = rw length-set (s .forks); few = rw length-set (s .few); many = rw length-set (s .many); below = s .below }))
 
+-- an entry over one like it changes nothing
+write-at-same : (m low h : ℕ) (t : Tree h) (g : ℕ) (e : Entry) → Shaped m low h t → g < size h t → getD (entries h t) g noEntry ≡ e → writeAt h t g e ≡ t
+unfolding entries Shaped writeAt
+write-at-same m low zero t g e s b q = refl
+write-at-same m low (suc h) t g e s b q =
+    let i = slotAt h t g in
+    let r = restAt h t g in
+    let c = childAt h t g in
+    let L = way-down m low h t g s (omega arith) in
+    either-lt r (size h c)
+    (λ inner.
+    let below : writeAt h c r e ≡ c =
+    write-at-same m m h c r e (child-shaped m low h t g s (omega arith)) inner (sym (located-below (entries h) (t .children) (t .own) (noTree h) g i r (s .forks) L noEntry inner) ∙ q) in
+    rw (lt-ltb r (size h c) inner, below, set-getD (t .children) i (noTree h)))
+    (λ outer.
+    let own = located-here (entries h) (t .children) (t .own) (noTree h) g i r (s .forks) L noEntry outer
+    (located-own (entries h) (t .children) (t .own) (noTree h) g i r (s .forks) L outer b) in
+    rw (le-ltb r (size h c) outer, ← q, own, set-getD (t .own) i noEntry))
+
 -- ---- whole trees
 
 module _ (m : ℕ) (x : Whole) (g : ℕ) (e : Entry) (s : Formed m x) (b : g < length (held x)) where
@@ -109,3 +128,7 @@ module _ (m : ℕ) (x : Whole) (g : ℕ) (e : Entry) (s : Formed m x) (b : g < l
   pub write-formed : Formed m (write x g e)
   unfolding write held Formed
   write-formed = write-at-shaped m 1 (x .levels) (x .tree) g e s b
+
+  pub write-same : getD (held x) g noEntry ≡ e → write x g e ≡ x
+  unfolding write held Formed
+  write-same q = rw (write-at-same m 1 (x .levels) (x .tree) g e s b q)

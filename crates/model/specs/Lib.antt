@@ -29,5 +29,7 @@ pub mod MapCalls
 pub mod SetCalls
 pub mod ListCalls
 pub mod CursorCalls
+-- the source's own words
+pub mod Source
 -- "Bench cases"
 pub mod Bench

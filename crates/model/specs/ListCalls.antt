@@ -25,6 +25,12 @@ pub record Column : Type 0 where
   pub before : List ℕ
   pub after : List ℕ
 
+abbrev pub keyColumn : List ℕ → List ℕ → Column
+keyColumn before after = record { part = λ e. e .key; before = before; after = after }
+
+abbrev pub valueColumn : List ℕ → List ℕ → Column
+valueColumn before after = record { part = λ e. e .value; before = before; after = after }
+
 abbrev pub shortest : List Column → ℕ
 shortest [] = 0
 shortest (c ∷ []) = length (c .before)

@@ -22,11 +22,11 @@ use Rattle.model.specs.Gap.{Found, find}
 use Rattle.model.specs.Pool.{wholeOf, poolOf}
 use Rattle.model.specs.Sound.{Sound}
 use Rattle.model.specs.PoolCalls.{Checks}
-use Rattle.tree.specs.declared.check.Tally.{Tally}
+use Rattle.lend.specs.Pages.{most, Inside}
 use Rattle.tree.specs.declared.check.Tally.the-variants as tally
-use Rattle.tree.specs.declared.search.Got.{Got}
+use Rattle.tree.specs.declared.check.Tally.{Tally}
 use Rattle.tree.specs.declared.search.Got.the-variants as got
-use Rattle.tree.specs.Pages.{most, Inside}
+use Rattle.tree.specs.declared.search.Got.{Got}
 use Rattle.tree.specs.Sits.{Sits}
 use Rattle.tree.specs.Search.{gotBy, GetsBelow}
 use Rattle.tree.specs.Check.{overTree, Walks, Cursored, CursorIs}
@@ -42,7 +42,7 @@ use Rattle.model.proofs.Read.{length-own, read-page}
 use Rattle.model.proofs.Standing.{read-standing}
 use Rattle.model.proofs.Right.{sound-right, right-pages}
 use Rattle.pagemap.proofs.Map.{met-exactly}
-use Rattle.tree.proofs.Heads.{head-long, head-root, head-levels}
+use Rattle.lend.proofs.Fitting.{head-long, head-root, head-levels}
 use Rattle.tree.proofs.Meeting.{Follows, Goes}
 use Rattle.tree.proofs.Walked.{Fine, GoesBelow, treeAt, tree-goes}
 

@@ -19,9 +19,10 @@ use Rattle.model.specs.Insert.{Up, whole, split, cutLeft, cutRight, fit, grown,
 use Rattle.pagemap.specs.declared.Lowest.the-variants as lowest
 use Rattle.pagemap.specs.Bits.{setBit}
 use Rattle.pagemap.specs.Lowest.{firstOf}
+use Rattle.lend.specs.Pages.{most, keeps}
+use Rattle.lend.specs.Touches.{Sized, Touches}
 use Rattle.tree.specs.declared.insert.Up.the-variants as up
-use Rattle.tree.specs.Pages.{most, keeps}
-use Rattle.tree.specs.Sits.{Sized, PathOf, Sits, Touches}
+use Rattle.tree.specs.Sits.{PathOf, Sits}
 use Rattle.tree.specs.Insert.{freesIn, freshIn, fuller, Fits, Parts, Puts, Marked, upOf, UpStands, grownPages, Grows, InsertsBelow}
 use Rattle.model.proofs.Cases.{either-lt, same-self, same-zero}
 use Rattle.model.proofs.Lists.{length-ins, all-take, all-drop, splice-same, splice-more}
@@ -30,10 +31,10 @@ use Rattle.model.proofs.Search.{path-long}
 use Rattle.model.proofs.Insert.{Used, insertAt-used, insertAt-times, upLeft, insertAt-root}
 use Rattle.model.proofs.Standing.{all-standing}
 use Rattle.pagemap.proofs.Taking.{take-counts, lowest-kth}
-use Rattle.tree.proofs.Saying.{Says, says-holds, says-left, says-right}
-use Rattle.tree.proofs.Sitting.{sits-count, sits-some, sits-most, sits-slot}
+use Rattle.lend.proofs.Touching.{touches-none, only-touches, only-map, map-bits}
+use Rattle.tree.proofs.Saying.{Says, says-holds, says-left, says-right, root-count}
+use Rattle.tree.proofs.Sitting.{sits-some, sits-most, sits-slot}
 use Rattle.tree.proofs.Paths.{behind, first-page, first-slot, path-behind, behind-next, behind-from, first-from}
-use Rattle.tree.proofs.Touching.{touches-none, only-touches, only-map, map-bits}
 use Rattle.tree.proofs.Growing.{taking, upBelow, runBelow, grownBelow, run-ended, run-ends, run-goes, grown-page, grown-child, grown-next, Ready, once, once-below, inside, child-ready, page-kept, others-stand}
 
 -- what an insertion leaves, once it is known what it hands up
@@ -203,7 +204,7 @@ module _ {w : List ℕ} {low h : ℕ} {t : Tree (suc h)} {g : ℕ} (a : Ready w 
 
     split-grows : (r₂ : up.the-data) → Puts (t .page) (slotAt h t g) x (numberOf h r) w₁ w₂ r₂ → Grows w (suc h) t g e w₂ r₂
     split-grows r₂ P =
-        let count : countOf (pageOf w₁ (t .page)) ≡ length (t .own) = ap countOf (page-kept a w₁ (G .touches)) ∙ sits-count w low h t (a .sits) in
+        let count : countOf (pageOf w₁ (t .page)) ≡ length (t .own) = ap countOf (page-kept a w₁ (G .touches)) ∙ root-count w h t (a .sits .stands) in
         let slot = sits-slot w low h t (a .sits) g (a .within) in
         let some = sits-some w low h t (a .sits) in
         let few = sits-most w low h t (a .sits) in

@@ -16,8 +16,9 @@ use Rattle.model.specs.Page.{pageOf}
 use Rattle.model.specs.Standing.{Standing}
 use Rattle.model.specs.Gap.{slotAt, restAt, childAt, gapPages}
 use Rattle.model.specs.Insert.{Up, insertAt, run}
-use Rattle.tree.specs.Pages.{most}
-use Rattle.tree.specs.Sits.{Sits, Touches}
+use Rattle.lend.specs.Pages.{most}
+use Rattle.lend.specs.Touches.{Touches}
+use Rattle.tree.specs.Sits.{Sits}
 use Rattle.tree.specs.Insert.{freesIn, freshIn, Marked, grownPages}
 use Rattle.model.proofs.Cases.{same-self}
 use Rattle.model.proofs.Lists.{all-append, all-left, all-right, all-take, all-at, take-tab, getD-tab, length-tab}

@@ -15,16 +15,16 @@ use Rattle.model.specs.Remove as removal
 use Rattle.page.specs.declared.Change.{Change}
 use Rattle.page.specs.Node.{less, instead}
 use Rattle.page.specs.Page.{holdsAt}
-use Rattle.tree.specs.declared.remove.Gone.{Gone}
+use Rattle.lend.specs.Pages.{most, nodeIn, Becomes, ChangesIn}
 use Rattle.tree.specs.declared.remove.Gone.the-variants as gone
-use Rattle.tree.specs.Pages.{most, nodeIn, Becomes, ChangesIn}
+use Rattle.tree.specs.declared.remove.Gone.{Gone}
 use Rattle.tree.specs.Remove.{TakesOut, Inherits}
 use Rattle.model.proofs.Cases.{either}
 use Rattle.model.proofs.Lists.{final-at}
 use Rattle.model.proofs.Gone.{gone-at}
 use Rattle.model.proofs.Read.{length-own}
 use Rattle.page.proofs.Pages.{holds-at}
-use Rattle.tree.proofs.Lent.{own-at, only-none}
+use Rattle.lend.proofs.Lent.{own-at, only-none}
 
 -- ---- a leaf loses an entry
 

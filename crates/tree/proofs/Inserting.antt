@@ -17,18 +17,19 @@ use Rattle.model.specs.Tree.{Entry, noEntry, entry, Tree, Whole, held, meets, t
 use Rattle.model.specs.Page.{pageOf}
 use Rattle.model.specs.Standing.{rootOf, numberOf, Standing}
 use Rattle.model.specs.Gap.{gapPages}
-use Rattle.model.specs.Insert.{whole, split, insertAt, top, insert, run, needed}
 use Rattle.model.specs.Insert as insertion
+use Rattle.model.specs.Insert.{whole, split, insertAt, top, insert, run, needed}
 use Rattle.model.specs.Pool.{withWhole, Pool, heldBy, freeOf, room, poolOf, gapBy}
 use Rattle.model.specs.Sound.{Sound}
 use Rattle.model.specs.Written.{Written}
 use Rattle.model.specs.MapCalls.{putAt, crowded}
 use Rattle.pagemap.specs.declared.Lowest.the-variants as lowest
 use Rattle.pagemap.specs.Lowest.{freeIn, firstOf}
+use Rattle.lend.specs.Touches.{Sized}
 use Rattle.tree.specs.declared.insert.Inserted.the-variants as inserted
-use Rattle.tree.specs.declared.insert.Up.{Up}
 use Rattle.tree.specs.declared.insert.Up.the-variants as up
-use Rattle.tree.specs.Sits.{Sized, PathOf}
+use Rattle.tree.specs.declared.insert.Up.{Up}
+use Rattle.tree.specs.Sits.{PathOf}
 use Rattle.tree.specs.Insert.{freesIn, freshIn, Needs, upOf, UpStands, Grows, InsertsBelow, NewRoots, Inserts}
 use Rattle.model.proofs.Cases.{either-eq, contrary}
 use Rattle.model.proofs.Lists.{length-ins, ins-before, all-append, all-left, all-right, all-take, all-at, take-tab, getD-tab, length-tab}
@@ -38,10 +39,11 @@ use Rattle.model.proofs.Standing.{standing-frame}
 use Rattle.model.proofs.Right.{Right, sound-right}
 use Rattle.model.proofs.Written.{sound-written}
 use Rattle.pagemap.proofs.Taking.{take-counts, lowest-kth}
+use Rattle.lend.proofs.Touching.{map-bits, front-word}
+use Rattle.lend.proofs.Fitting.{headed-sized}
 use Rattle.tree.proofs.Sitting.{sound-sits}
 use Rattle.tree.proofs.Paths.{first-page}
-use Rattle.tree.proofs.Touching.{map-bits, front-word}
-use Rattle.tree.proofs.Heads.{headed-sized, head-page, head-stored}
+use Rattle.tree.proofs.Heads.{head-page, head-stored}
 use Rattle.tree.proofs.Leaving.{head-word, key-stays, Carries, carries-leaves, leaves-written}
 
 -- ---- the pool by its words
@@ -211,7 +213,7 @@ inserts-full w ps ss e k needs none = record {
   long = refl;
   kept = λ _. refl;
   exact = λ g sound b path. rw (crowded-full w ps k g needs sound b (path .pages) none);
-  holds = λ g sound b _ path free. contrary (crowded-full w ps k g needs sound b (path .pages) none) free;
+  holds = λ g sound b path _ free. contrary (crowded-full w ps k g needs sound b (path .pages) none) free;
   others = λ _ _ _ _ _ _ _. refl;
 }
 
@@ -222,7 +224,7 @@ inserts-done w ps ss e k w₁ u w₂ fits many needs enough below topped = recor
   long = length-set w₂ 2 (word w₂ 2 + 1) ∙ topped-long ps u w₁ w₂ topped ∙ below .long;
   kept = λ x. let z : _≡_ {A = ℕ} 0 1 = cc in absurd (omega arith);
   exact = λ g sound b path. rw (crowded-room w ps k g needs sound b (path .pages) enough);
-  holds = λ g sound b before path _.
+  holds = λ g sound b path before _.
       let P = poolOf w in
       let a = sound-written w sound in
       insert-written w P (sound-right w sound) a g e b (headed-sized w fits) (suffices g sound b path) ps w₁ w₂ u (path .pages)

@@ -1,14 +1,9 @@
 -- Laws that belong to no one function.
-pub mod Lent
-pub mod Nodes
-pub mod Copied
-pub mod Several
 pub mod Saying
 pub mod Sitting
 pub mod Paths
 pub mod Searching
 pub mod Seeking
-pub mod Touching
 pub mod Heirs
 pub mod Shrinking
 pub mod Heads

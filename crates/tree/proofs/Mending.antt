@@ -21,9 +21,9 @@ use Rattle.model.specs.Mend.{Plan, keep, move, join, plan, nodeAt, count, mend,
 use Rattle.model.specs.Remove.{planAt}
 use Rattle.page.specs.declared.Change.{Change}
 use Rattle.page.specs.Page.{holdsAt, roomAt}
+use Rattle.lend.specs.Pages.{most, areApart, canGive, canGet, canPass, canJoin, MovesIn}
 use Rattle.tree.specs.declared.remove.Mending.the-variants as mending
 use Rattle.tree.specs.declared.search.Below.the-variants as below
-use Rattle.tree.specs.Pages.{most, areApart, canGive, canGet, canPass, canJoin, MovesIn}
 use Rattle.tree.specs.Search.{belowOf}
 use Rattle.tree.specs.Insert.{Marked}
 use Rattle.tree.specs.Remove.{countBelow, Plans, MovesLeft, MovesRight, Joined, JoinsBelow, near, Mended, Mends}
@@ -33,8 +33,8 @@ use Rattle.model.proofs.PageMap.{bitAt-past}
 use Rattle.model.proofs.Mend.{filled-loosen, Loose, Able, plan-able}
 use Rattle.pagemap.proofs.Map.{clear-bits, bitAt-le}
 use Rattle.page.proofs.Pages.{room-at, holds-at}
+use Rattle.lend.proofs.Touching.{touches-none, touches-wider, only-touches, only-map, front-head}
 use Rattle.tree.proofs.Saying.{root-count, child-stands, child-found}
-use Rattle.tree.proofs.Touching.{touches-none, touches-wider, only-touches, only-map, front-head}
 use Rattle.tree.proofs.Planning.{count-found, plan-same, Acts, plan-acts}
 use Rattle.tree.proofs.Pairs.{pair-met, pair-apart, moved-stands, joined-stands}
 

@@ -8,17 +8,17 @@ use Prim.Native.Nat.{ℕ, suc}
 use native.Mathlib.Omega.{arith}
 use Rattle.model.specs.PageMap.{mapOf}
 use Rattle.pagemap.specs.Bits.{clearBit}
-use Rattle.page.specs.declared.Change.{Change}
 use Rattle.page.specs.declared.Change.the-variants as change
+use Rattle.page.specs.declared.Change.{Change}
 use Rattle.page.specs.Page.{did}
+use Rattle.lend.specs.Pages.{MovesIn, canJoin, JoinsIn}
+use Rattle.lend.specs.Touches.{MapBecomes}
 use Rattle.tree.specs.declared.search.Below.the-variants as below
-use Rattle.tree.specs.Pages.{MovesIn, canJoin, JoinsIn}
-use Rattle.tree.specs.Sits.{MapBecomes}
 use Rattle.tree.specs.Search.{belowOf}
 use Rattle.tree.specs.Remove.{MovesBelow, Joined, JoinsBelow}
 use Rattle.model.proofs.Cases.{contrary}
+use Rattle.lend.proofs.Touching.{touches-then, only-touches, only-map}
 use Rattle.tree.proofs.Searching.{no-page, one-page}
-use Rattle.tree.proofs.Touching.{touches-then, only-touches, only-map}
 
 module _ (u j : ℕ) (n : ℕ → ℕ) (ok : ℕ → ℕ → Bool) (w : List ℕ) where
   pub moves-no-left : belowOf w u j ≡ below.Unsound → MovesBelow u j n ok w w

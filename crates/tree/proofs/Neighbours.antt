@@ -12,10 +12,11 @@ use Rattle.model.specs.Lists.{every}
 use Rattle.model.specs.Layout.{least}
 use Rattle.model.specs.Tree.{Tree, size, Shaped}
 use Rattle.model.specs.Gap.{slotAt, restAt, child, childAt, gapPages, gapSlots}
-use Rattle.tree.specs.Pages.{most}
+use Rattle.lend.specs.Pages.{most}
 use Rattle.tree.specs.Sits.{PathIn, PathOf, Sits}
 use Rattle.tree.specs.Remove.{countBelow, Beside, CanRemove}
-use Rattle.tree.proofs.Sitting.{sits-count, sits-most, sits-child, sits-below, sits-slot, sits-rest}
+use Rattle.tree.proofs.Saying.{root-count}
+use Rattle.tree.proofs.Sitting.{sits-most, sits-child, sits-below, sits-slot, sits-rest}
 use Rattle.tree.proofs.Planning.{count-found}
 
 -- what `neighbour` answers of child j of page u
@@ -28,7 +29,7 @@ sits-sound w low h t s u j e b =
     let c : Tree (suc h) = child (suc h) t j in
     let sc : Sits w least (suc h) c = sits-child w low (suc h) t s j b in
     let counted : countBelow w (t .page) j ≡ length (c .own) =
-    count-found w (t .page) j (c .page) (sits-below w low (suc h) t s (omega arith) j b) ∙ sits-count w least h c sc in
+    count-found w (t .page) j (c .page) (sits-below w low (suc h) t s (omega arith) j b) ∙ root-count w h c (sc .stands) in
     rw (← e, counted, le-leb least (length (c .own)) (sc .shaped .few), le-leb (length (c .own)) most (sits-most w least h c sc))
 
 -- ---- along a path

@@ -17,7 +17,7 @@ use Rattle.model.specs.Standing.{numberOf, Standing}
 use Rattle.model.specs.Insert.{cutLeft, cutRight}
 use Rattle.model.specs.Mend.{move, join, nodeAt, pair, mend}
 use Rattle.page.specs.declared.Change.{Change}
-use Rattle.tree.specs.Pages.{glued, MovesIn}
+use Rattle.lend.specs.Pages.{glued, MovesIn}
 use Rattle.tree.specs.Remove.{Joined}
 use Rattle.model.proofs.Cases.{same-self, same-zero}
 use Rattle.model.proofs.Lists.{split-two, all-append, all-take, all-drop, map-del}

@@ -10,7 +10,7 @@ use Rattle.model.specs.Tree.{Tree}
 use Rattle.model.specs.Standing.{numberOf}
 use Rattle.model.specs.Gap.{slotAt, restAt, childAt, gapPages, gapSlots}
 use Rattle.page.specs.Runs.{part, put}
-use Rattle.tree.specs.Pages.{most, Inside}
+use Rattle.lend.specs.Pages.{most, Inside}
 use Rattle.tree.specs.Sits.{PathIn, PathOf}
 use Rattle.model.proofs.Lists.{all-at, all-take, all-drop}
 

@@ -19,13 +19,13 @@ use Rattle.page.specs.declared.Change.{Change}
 use Rattle.page.specs.declared.Parting.the-variants as parting
 use Rattle.page.specs.Node.{more, wider}
 use Rattle.page.specs.Page.{roomAt}
+use Rattle.lend.specs.Pages.{most, Inside, nodeIn, ChangesIn, canSplit, SplitsIn}
+use Rattle.lend.specs.Touches.{Sized, MapBecomes}
 use Rattle.tree.specs.declared.insert.Up.the-variants as up
-use Rattle.tree.specs.Pages.{most, Inside, nodeIn, ChangesIn, canSplit, SplitsIn}
-use Rattle.tree.specs.Sits.{Sized, MapBecomes}
 use Rattle.tree.specs.Insert.{freesIn, Puts}
 use Rattle.pagemap.proofs.Taking.{lowest-is}
 use Rattle.page.proofs.Pages.{room-at, full-at}
-use Rattle.tree.proofs.Touching.{only-touches, only-map}
+use Rattle.lend.proofs.Touching.{only-touches, only-map}
 
 module _ (w : List ℕ) (p slot : ℕ) (e : Entry) (child : ℕ) where
   -- the page has room

@@ -21,9 +21,9 @@ use Rattle.model.specs.Remove.{removeAt, freedAt, collapse, removeIn, remove}
 use Rattle.model.specs.Pool.{heldBy, poolOf}
 use Rattle.model.specs.Sound.{Sound}
 use Rattle.page.specs.declared.Change.the-variants as change
+use Rattle.lend.specs.Touches.{Sized}
 use Rattle.tree.specs.declared.remove.Gone.{Gone}
-use Rattle.tree.specs.declared.search.Below.the-variants as below
-use Rattle.tree.specs.Sits.{Sized, PathOf, Sits}
+use Rattle.tree.specs.Sits.{PathOf, Sits, AtEntry}
 use Rattle.tree.specs.Remove.{nearIn, RemovesBelow, CanRemove, Lowered, Lowers, Removes}
 use Rattle.model.proofs.Cases.{contrary, either-le}
 use Rattle.model.proofs.Lists.{all-at, length-del, del-before}
@@ -37,11 +37,12 @@ use Rattle.model.proofs.Standing.{standing-frame}
 use Rattle.model.proofs.Right.{sound-right}
 use Rattle.model.proofs.Written.{sound-written}
 use Rattle.pagemap.proofs.Map.{clear-bits}
+use Rattle.lend.proofs.Touching.{map-bits, front-word}
+use Rattle.lend.proofs.Fitting.{headed-sized}
 use Rattle.tree.proofs.Saying.{root-count, child-found}
 use Rattle.tree.proofs.Sitting.{sound-sits}
 use Rattle.tree.proofs.Paths.{first-page}
-use Rattle.tree.proofs.Touching.{map-bits, front-word}
-use Rattle.tree.proofs.Heads.{headed-sized, head-page, head-stored}
+use Rattle.tree.proofs.Heads.{head-page, head-stored}
 use Rattle.tree.proofs.Neighbours.{can-remove-path}
 use Rattle.tree.proofs.Leaving.{head-word, key-stays, Carries, carries-leaves, leaves-written}
 
@@ -136,12 +137,12 @@ count-some w e l = either-le 1 (countWord w) (λ b. b) (λ b. absurd (omega (ari
 
 -- where it is not done, the pool is not sound
 pub removes-none : (w ps ss : List ℕ)
-    → ((g : ℕ) → Sound w → g < length (heldBy (poolOf w)) → PathOf (poolOf w .whole .levels) (poolOf w .whole .tree) g ps ss → ⊥) → Removes w ps ss w change.Unsound
+    → AtEntry w ps ss (λ g. ⊥) → Removes w ps ss w change.Unsound
 removes-none w ps ss never = record {
   long = refl;
   kept = λ _. refl;
   sound = λ g sound b path. absurd (never g sound b path);
-  holds = λ g sound b _ path. absurd (never g sound b path);
+  holds = λ g sound b path _. absurd (never g sound b path);
   others = λ _ _ _ _ _ _. refl;
 }
 
@@ -158,7 +159,7 @@ removes-done w ps ss w₁ w₂ u fits many below lowers = record {
   long = length-set w₂ 2 (word w₂ 2 - 1) ∙ lowers .long ∙ below .long;
   kept = λ x. let z : _≡_ {A = ℕ} 0 1 = cc in absurd (omega arith);
   sound = λ _ _ _ _. refl;
-  holds = λ g sound b before path.
+  holds = λ g sound b path before.
       let P = poolOf w in
       let a = sound-written w sound in
       let x = remove least (P .whole) g in

@@ -15,13 +15,14 @@ use Rattle.model.specs.Tree.{Tree, size}
 use Rattle.model.specs.Page.{pageOf, countOf}
 use Rattle.model.specs.Gap.{gapPages, restAt, childAt}
 use Rattle.model.specs.Insert.{onward, run, needed}
-use Rattle.tree.specs.Pages.{most}
+use Rattle.lend.specs.Pages.{most}
 use Rattle.tree.specs.Sits.{Sits}
 use Rattle.tree.specs.Insert.{runOn, Needs}
 use Rattle.model.proofs.Cases.{either-le, either-eq}
 use Rattle.model.proofs.Search.{path-long}
 use Rattle.model.proofs.Insert.{either-onward}
-use Rattle.tree.proofs.Sitting.{sits-count, sits-child, sits-slot, sits-rest}
+use Rattle.tree.proofs.Saying.{root-count}
+use Rattle.tree.proofs.Sitting.{sits-child, sits-slot, sits-rest}
 
 -- ---- along a path
 
@@ -90,7 +91,7 @@ unfolding runOn gapPages run
 run-on-is w low zero t g s b = refl
 run-on-is w low (suc h) t g s b =
     let ih = run-on-is w least h (childAt h t g) (restAt h t g) (sits-child w low h t s _ (sits-slot w low h t s g b)) (sits-rest w low h t s g b) in
-    rw (ih, path-long h (childAt h t g) (restAt h t g) .0, sits-count w low h t s)
+    rw (ih, path-long h (childAt h t g) (restAt h t g) .0, root-count w h t (s .stands))
 
 -- the pages needed: one more where the run goes through the root
 needs-of : (w ps : List ℕ) (k r : ℕ) → k ≡ runOn w ps → r ≡ cond (eqb k (length ps)) (suc k) k → r ≤ suc (length ps) → Needs w ps r

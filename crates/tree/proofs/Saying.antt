@@ -15,13 +15,13 @@ use Rattle.model.specs.Standing.{mapNode, numberOf, Standing}
 use Rattle.model.specs.Gap.{child}
 use Rattle.model.specs.Insert.{cutLeft, cutRight}
 use Rattle.model.specs.Mend.{glue}
+use Rattle.lend.specs.Pages.{most, nodeIn}
 use Rattle.tree.specs.declared.search.Below.the-variants as below
-use Rattle.tree.specs.Pages.{most, nodeIn}
 use Rattle.tree.specs.Search.{belowOf}
 use Rattle.model.proofs.Lists.{all-at, map-take, map-drop, getD-map}
 use Rattle.model.proofs.Gap.{times-page, times-child}
 use Rattle.page.proofs.Pages.{holds-count}
-use Rattle.tree.proofs.Lent.{child-at}
+use Rattle.lend.proofs.Lent.{child-at}
 
 -- ---- a node by page numbers, and a node of trees, that say the same; a leaf's children may be anything
 

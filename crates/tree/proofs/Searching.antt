@@ -18,18 +18,18 @@ use Rattle.model.specs.Page.{pageOf, countOf, heightOf, entryIn, childIn, entri
 use Rattle.model.specs.Standing.{numberOf}
 use Rattle.model.specs.Entries.{gapOf, gapBefore}
 use Rattle.model.specs.Gap.{child, at, Found, deeper, find}
-use Rattle.page.specs.declared.Place.{Place}
 use Rattle.page.specs.declared.Place.the-variants as place
+use Rattle.page.specs.declared.Place.{Place}
 use Rattle.page.specs.Page.{counted, placeOf}
-use Rattle.tree.specs.declared.search.Aim.{Aim}
+use Rattle.lend.specs.Pages.{most}
 use Rattle.tree.specs.declared.search.Aim.the-variants.{Before, After, Start, End}
-use Rattle.tree.specs.declared.search.Below.{Below}
+use Rattle.tree.specs.declared.search.Aim.{Aim}
 use Rattle.tree.specs.declared.search.Below.the-variants as below
-use Rattle.tree.specs.declared.search.Got.{Got}
+use Rattle.tree.specs.declared.search.Below.{Below}
 use Rattle.tree.specs.declared.search.Got.the-variants as got
-use Rattle.tree.specs.declared.search.Slot.{Slot}
+use Rattle.tree.specs.declared.search.Got.{Got}
 use Rattle.tree.specs.declared.search.Slot.the-variants as slot
-use Rattle.tree.specs.Pages.{most}
+use Rattle.tree.specs.declared.search.Slot.{Slot}
 use Rattle.tree.specs.Sits.{Sits}
 use Rattle.tree.specs.Search.{belowOf, placeAt, lastAt, aimed, beforeSlot, afterSlot, startSlot, slotOf, gotBy, gotOf, GetsBelow}
 use Rattle.model.proofs.Cases.{either, either-le, either-lt}
@@ -37,8 +37,9 @@ use Rattle.model.proofs.Lists.{every-true}
 use Rattle.model.proofs.Entries.{gap-le, has-at, gap-after-has, at-true, gap-after-absent, gap-start, gap-end}
 use Rattle.model.proofs.Search.{rising-own}
 use Rattle.model.proofs.Read.{length-own}
-use Rattle.tree.proofs.Lent.{own-at}
-use Rattle.tree.proofs.Sitting.{sits-height, sits-own, sits-count, sits-some, sits-most, sits-child, sits-below}
+use Rattle.lend.proofs.Lent.{own-at}
+use Rattle.tree.proofs.Saying.{root-count}
+use Rattle.tree.proofs.Sitting.{sits-height, sits-own, sits-some, sits-most, sits-child, sits-below}
 
 -- ---- what a page's tests answer
 
@@ -190,7 +191,7 @@ own-rising h t r = rising-own (entries h) (t .children) (t .own) r
 module _ (w : List ℕ) (low h : ℕ) (t : Tree (suc h)) (s : Sits w low (suc h) t) where
   sits-counted : every (counted most (pageOf w (t .page))) ≡ true
   sits-counted =
-      rw (sits-count w low h t s, le-leb 1 (length (t .own)) (sits-some w low h t s), le-leb (length (t .own)) most (sits-most w low h t s))
+      rw (root-count w h t (s .stands), le-leb 1 (length (t .own)) (sits-some w low h t s), le-leb (length (t .own)) most (sits-most w low h t s))
 
   sits-place : (k : ℕ) → placeAt w (t .page) h k ≡ cond (at k (t .own) (gapBefore k (t .own))) (place.Here (gapBefore k (t .own))) (place.Gap (gapBefore k (t .own)))
   unfolding placeAt placeOf
@@ -198,7 +199,7 @@ module _ (w : List ℕ) (low h : ℕ) (t : Tree (suc h)) (s : Sits w low (suc h)
 
   sits-last : lastAt w (t .page) h ≡ slot.At (length (t .own))
   unfolding lastAt
-  sits-last = rw (sits-height w low h t s, eq-eqb h h refl, sits-counted, sits-count w low h t s)
+  sits-last = rw (sits-height w low h t s, eq-eqb h h refl, sits-counted, root-count w h t (s .stands))
 
   -- the page's slot for an aim is the aim's gap among its entries
   pub sits-aim : (aim : Aim) → Rising (t .own) → slotOf w (t .page) h aim ≡ slot.At (gapOf (aimed aim) (t .own))
@@ -263,7 +264,7 @@ module _ (w : List ℕ) (p h k above : ℕ) where
       let few = at-true k (t .own) (gapBefore k (t .own)) (says .1) .0 in
       let own : getD (entriesOf most (pageOf w p)) i noEntry ≡ getD (t .own) (gapBefore k (t .own)) noEntry = rw (← q, sits-own w low h t s, says .0) in
       let value : v ≡ getD (t .own) (gapBefore k (t .own)) noEntry .value =
-      a ∙ ap (λ (x : Entry). x .value) (own-at (pageOf w p) i (rw (← q) (omega (arith, sits-count w low h t s))) ∙ own) in
+      a ∙ ap (λ (x : Entry). x .value) (own-at (pageOf w p) i (rw (← q) (omega (arith, root-count w h t (s .stands)))) ∙ own) in
       ap (λ (x : ℕ). got.Value x (above + 1)) value ∙ ap (gotOf above) (sym (find-here k h t (says .1)))
 
   -- a gap of a leaf; and a gap with no child there

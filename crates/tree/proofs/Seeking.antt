@@ -16,13 +16,13 @@ use Rattle.model.specs.Gap.{gapPages, gapSlots, seekPages, seekSlots, find}
 use Rattle.model.specs.Pool.{heldBy, wholeOf, poolOf}
 use Rattle.model.specs.Sound.{Sound}
 use Rattle.model.specs.MapCalls.{pagesRead}
-use Rattle.tree.specs.declared.search.Aim.{Aim}
+use Rattle.lend.specs.Pages.{Inside}
 use Rattle.tree.specs.declared.search.Aim.the-variants.{Before, After, Start, End}
+use Rattle.tree.specs.declared.search.Aim.{Aim}
 use Rattle.tree.specs.declared.search.Below.the-variants as below
-use Rattle.tree.specs.declared.search.Got.{Got}
 use Rattle.tree.specs.declared.search.Got.the-variants as got
+use Rattle.tree.specs.declared.search.Got.{Got}
 use Rattle.tree.specs.declared.search.Slot.the-variants as slot
-use Rattle.tree.specs.Pages.{Inside}
 use Rattle.tree.specs.Sits.{PathIn, PathOf, Sits}
 use Rattle.tree.specs.Search.{belowOf, slotOf, aimed, gotOf, GetsBelow, Gets, SeeksBelow, Seeks}
 use Rattle.model.proofs.Cases.{contrary}

@@ -18,11 +18,11 @@ use Rattle.model.specs.Tree.{Entry, Tree, noEntry, noNode, noTree, entries, siz
 use Rattle.model.specs.Page.{pageOf, countOf, heightOf, entriesOf, childrenOf, Holds}
 use Rattle.model.specs.Standing.{mapNode, numberOf, Standing}
 use Rattle.model.specs.Gap.{slotAt, restAt, child, childAt, gapPages, gapSlots}
-use Rattle.model.specs.Remove.{step, stepFreed, removeAt, freedAt}
 use Rattle.model.specs.Remove as removal
-use Rattle.tree.specs.declared.remove.Gone.{Gone}
+use Rattle.model.specs.Remove.{step, stepFreed, removeAt, freedAt}
+use Rattle.lend.specs.Pages.{most}
 use Rattle.tree.specs.declared.remove.Gone.the-variants as gone
-use Rattle.tree.specs.Pages.{most}
+use Rattle.tree.specs.declared.remove.Gone.{Gone}
 use Rattle.tree.specs.Sits.{PathOf, Sits}
 use Rattle.tree.specs.Insert.{Marked}
 use Rattle.tree.specs.Remove.{near, Mends, Mended, TakesOut, inheritedBy, Inherits, goneBy, goneOf, nearPages, Shrinks, RemovesBelow}
@@ -35,9 +35,10 @@ use Rattle.model.proofs.Remove.{lostAt, lost-forks, lost-loose, lost-times, rem
 use Rattle.model.proofs.Path.{slot-at-end, rest-at-end, final-end, remove-at-page, lost-plain, lost-heir, end-at-last}
 use Rattle.model.proofs.Standing.{standing-frame, set-standing}
 use Rattle.pagemap.proofs.Map.{bitAt-le}
-use Rattle.tree.proofs.Sitting.{sits-own, sits-height, sits-count, sits-some, sits-most, sits-forks, sits-child, sits-slot, sits-rest}
+use Rattle.lend.proofs.Touching.{only-touches, only-map}
+use Rattle.tree.proofs.Saying.{root-count}
+use Rattle.tree.proofs.Sitting.{sits-own, sits-height, sits-some, sits-most, sits-forks, sits-child, sits-slot, sits-rest}
 use Rattle.tree.proofs.Paths.{behind, first-page, first-slot, path-behind, behind-from, first-from}
-use Rattle.tree.proofs.Touching.{only-touches, only-map}
 
 -- ---- the pages that a removal may change are pages of the tree
 
@@ -149,7 +150,7 @@ module _ (w w₁ : List ℕ) (low h : ℕ) (t : Tree (suc (suc h))) (g : ℕ) (r
     u-holds =
         let own : entriesOf most (pageOf w (t .page)) ≡ t .own = sits-own w low (suc h) t s in
         let height : heightOf (pageOf w (t .page)) ≡ suc h = sits-height w low (suc h) t s in
-        let count : countOf (pageOf w₁ (t .page)) ≡ length (t .own) = ap countOf kept-page ∙ sits-count w low (suc h) t s in
+        let count : countOf (pageOf w₁ (t .page)) ≡ length (t .own) = ap countOf kept-page ∙ root-count w (suc h) t (s .stands) in
         let few : length (t .own) ≤ most = sits-most w low (suc h) t s in
         let last : Entry = final noEntry (entries (suc h) x) in
         either-le (size (suc h) x) o
@@ -179,7 +180,7 @@ module _ (w w₁ : List ℕ) (low h : ℕ) (t : Tree (suc (suc h))) (g : ℕ) (r
     u-handed : r₂ ≡ goneOf (suc (suc h)) t g
     unfolding entries Shaped
     u-handed =
-        let count : countOf (pageOf w₁ (t .page)) ≡ length (t .own) = ap countOf kept-page ∙ sits-count w low (suc h) t s in
+        let count : countOf (pageOf w₁ (t .page)) ≡ length (t .own) = ap countOf kept-page ∙ root-count w (suc h) t (s .stands) in
         let forks : length (t .children) ≡ suc (length (t .own)) = sits-forks w low (suc h) t s in
         let up : (v : Bool) → ltb i (countOf (pageOf w₁ (t .page))) ≡ v → r₂ ≡ inheritedBy v r₁ = λ v e. heir .answer ∙ ap (λ (v : Bool). inheritedBy v r₁) e in
         either-lt i (length (t .own))
@@ -247,7 +248,7 @@ leaf-shrinks w w′ low t g r s b takes =
     let held : entries 1 t ≡ t .own = leaf-entries t in
     let size-own : size 1 t ≡ length (t .own) = ap length held in
     let own : entriesOf most (pageOf w (t .page)) ≡ t .own = sits-own w low 0 t s in
-    let count : countOf (pageOf w (t .page)) ≡ length (t .own) = sits-count w low 0 t s in
+    let count : countOf (pageOf w (t .page)) ≡ length (t .own) = root-count w 0 t (s .stands) in
     let some : 1 ≤ countOf (pageOf w (t .page)) = omega (arith, sits-some w low 0 t s) in
     let few : countOf (pageOf w (t .page)) ≤ most = omega (arith, sits-most w low 0 t s) in
     let out : TakesOut (t .page) g w w′ r = rw (leaf-slot (t .children) g (omega (arith, sits-forks w low 0 t s))) at takes in

@@ -7,13 +7,13 @@ use native.Mathlib.Omega.{arith}
 use lib.ListN.{length}
 use Rattle.model.specs.Layout.{least, pagesIn}
 use Rattle.model.specs.Tree.{Tree, size, Formed, Shaped, meets, noTree}
-use Rattle.model.specs.Page.{pageOf, countOf, heightOf, entriesOf}
+use Rattle.model.specs.Page.{pageOf, heightOf, entriesOf}
 use Rattle.model.specs.Standing.{numberOf}
 use Rattle.model.specs.Gap.{slotAt, restAt, child, childAt, gapPages, gapSlots}
 use Rattle.model.specs.Pool.{poolOf}
 use Rattle.model.specs.Sound.{Sound}
+use Rattle.lend.specs.Pages.{most, Inside}
 use Rattle.tree.specs.declared.search.Below.the-variants as below
-use Rattle.tree.specs.Pages.{most, Inside}
 use Rattle.tree.specs.Sits.{PathIn, PathOf, Sits}
 use Rattle.tree.specs.Search.{belowOf}
 use Rattle.model.proofs.Cases.{either-lt}
@@ -21,11 +21,8 @@ use Rattle.model.proofs.Lists.{all-at}
 use Rattle.model.proofs.Gap.{way-down, slot-le, times-child}
 use Rattle.model.proofs.Right.{sound-right}
 use Rattle.model.proofs.Written.{sound-written}
-use Rattle.tree.proofs.Saying.{root-met, root-holds, root-count, child-stands, child-found}
-
--- a page of the pool lies inside its words
-pub page-inside : (w : List ℕ) (p : ℕ) → p < pagesIn (length w) → Inside p w
-page-inside w p h = omega arith
+use Rattle.lend.proofs.Lent.{page-inside}
+use Rattle.tree.proofs.Saying.{root-met, root-holds, child-stands, child-found}
 
 -- the root's page is one of the pool
 pub root-inside : (w : List ℕ) (low h : ℕ) (t : Tree h) → 0 < h → Sits w low h t → numberOf h t < pagesIn (length w)
@@ -40,9 +37,6 @@ module _ (w : List ℕ) (low h : ℕ) (t : Tree (suc h)) (s : Sits w low (suc h)
 
   pub sits-own : entriesOf most (pageOf w (t .page)) ≡ t .own
   sits-own = root-holds w h t (s .stands) .own
-
-  pub sits-count : countOf (pageOf w (t .page)) ≡ length (t .own)
-  sits-count = root-count w h t (s .stands)
 
   pub sits-some : 1 ≤ length (t .own)
   unfolding Shaped

@@ -16,11 +16,11 @@ use Rattle.model.specs.Tree.{Tree, noEntry, entries, size, Shaped}
 use Rattle.model.specs.Page.{pageOf}
 use Rattle.model.specs.Gap.{slotAt, restAt, child, childAt, gapPages, gapSlots}
 use Rattle.page.specs.Page.{holdsAt}
-use Rattle.tree.specs.declared.steps.Spot.{Spot}
+use Rattle.lend.specs.Pages.{most, Inside}
 use Rattle.tree.specs.declared.steps.Spot.the-variants as spot
-use Rattle.tree.specs.Pages.{most, Inside}
+use Rattle.tree.specs.declared.steps.Spot.{Spot}
 use Rattle.tree.specs.Sits.{PathIn, Sits}
-use Rattle.tree.specs.Steps.{spotOf, spotBefore, orElse, hereAfter, hereBefore, deepest, Within, SpotAfter, SpotBefore}
+use Rattle.tree.specs.Steps.{spotOf, spotBefore, orElse, hereAfter, hereBefore, deepest, Within, Spots, SpotAfter, SpotBefore}
 use Rattle.model.proofs.Cases.{either, either-lt}
 use Rattle.model.proofs.Lists.{next-some, next-none}
 use Rattle.model.proofs.Gap.{way-down, child-shaped}
@@ -115,7 +115,7 @@ within-before w p (suc s) b q i e = within-after w p s b q i e
 
 module _ (m : ℕ) where
   -- where there is an entry it has a spot
-  spot-some : (low h : ℕ) (t : Tree h) (g : ℕ) → Shaped m low h t → g < size h t → (r : Spot) → orElse (spotOf h t g) r ≡ spotOf h t g
+  pub spot-some : (low h : ℕ) (t : Tree h) (g : ℕ) → Shaped m low h t → g < size h t → (r : Spot) → orElse (spotOf h t g) r ≡ spotOf h t g
   unfolding spotOf entries
   spot-some low zero t g s b r = absurd (omega arith)
   spot-some low (suc h) t g s b r =
@@ -133,7 +133,7 @@ module _ (m : ℕ) where
       absurd (omega arith))))
 
   -- and at the end there is none
-  spot-end : (low h : ℕ) (t : Tree h) (g : ℕ) → Shaped m low h t → g ≡ size h t → spotOf h t g ≡ spot.End
+  pub spot-end : (low h : ℕ) (t : Tree h) (g : ℕ) → Shaped m low h t → g ≡ size h t → spotOf h t g ≡ spot.End
   unfolding spotOf
   spot-end low zero t g s e = refl
   spot-end low (suc h) t g s e =
@@ -209,19 +209,20 @@ pub before-lost : (w : List ℕ) (p s : ℕ) → 0 < s → holdsAt most (pageOf 
 before-lost w p s l n = here-before w p s l ∙ after-lost w p (s - 1) n
 
 module _ (w ps ss : List ℕ) (q : PathIn w ps ss) where
-  after-said : {r : Spot} → r ≡ deepest (hereAfter w) ps ss → SpotAfter w ps ss r
-  after-said e = record {
+  said : (here : List ℕ → ℕ → ℕ → Spot) (found : (h : ℕ) → Tree h → ℕ → Spot) → ((p s : ℕ) → Inside p w → Within w (here w p s))
+      → ((low h : ℕ) (t : Tree h) (g : ℕ) → Sits w low h t → g ≤ size h t → deepest (here w) (gapPages h t g) (gapSlots h t g) ≡ found h t g)
+      → {r : Spot} → r ≡ deepest (here w) ps ss → Spots here found w ps ss r
+  said here found inside along e = record {
     looked = e;
-    within = λ p s i. within-path (hereAfter w) w ps ss (within-after w) (q .inside) p s (sym e ∙ i);
-    exact = λ low h t g u b a. e ∙ ap₂ (deepest (hereAfter w)) (a .pages) (a .slots) ∙ path-after w low h t g u b;
+    within = λ p s i. within-path (here w) w ps ss inside (q .inside) p s (sym e ∙ i);
+    exact = λ low h t g u b a. e ∙ ap₂ (deepest (here w)) (a .pages) (a .slots) ∙ along low h t g u b;
   }
 
+  after-said : {r : Spot} → r ≡ deepest (hereAfter w) ps ss → SpotAfter w ps ss r
+  after-said = said hereAfter spotOf (within-after w) (path-after w)
+
   before-said : {r : Spot} → r ≡ deepest (hereBefore w) ps ss → SpotBefore w ps ss r
-  before-said e = record {
-    looked = e;
-    within = λ p s i. within-path (hereBefore w) w ps ss (within-before w) (q .inside) p s (sym e ∙ i);
-    exact = λ low h t g u b a. e ∙ ap₂ (deepest (hereBefore w)) (a .pages) (a .slots) ∙ path-before w low h t g u b;
-  }
+  before-said = said hereBefore spotBefore (within-before w) (path-before w)
 
   module _ (i : ℕ) where
     pub after-none : Left (hereAfter w) ps ss i → i ≤ 0 → SpotAfter w ps ss spot.End

@@ -19,20 +19,21 @@ use Rattle.model.specs.Standing.{numberOf}
 use Rattle.model.specs.Entries.{next, prev, forth, back}
 use Rattle.model.specs.Gap.{slotAt, restAt, child, childAt, gapPages, seekPages, seekSlots}
 use Rattle.page.specs.Page.{holdsAt}
-use Rattle.tree.specs.declared.search.Aim.{Aim}
+use Rattle.lend.specs.Pages.{most}
 use Rattle.tree.specs.declared.search.Aim.the-variants.{Start, End}
+use Rattle.tree.specs.declared.search.Aim.{Aim}
 use Rattle.tree.specs.declared.search.Below.the-variants as below
-use Rattle.tree.specs.declared.steps.Step.{Step}
 use Rattle.tree.specs.declared.steps.Step.the-variants as step
-use Rattle.tree.specs.Pages.{most}
+use Rattle.tree.specs.declared.steps.Step.{Step}
 use Rattle.tree.specs.Sits.{PathIn, Sits}
 use Rattle.tree.specs.Search.{aimed, belowOf, SeeksBelow}
 use Rattle.tree.specs.Steps.{Steps, Turns, Overs, Forth, Back}
 use Rattle.model.proofs.Cases.{either, either-lt, contrary}
 use Rattle.model.proofs.Search.{path-long}
 use Rattle.page.proofs.Pages.{holds-facts, holds-at}
-use Rattle.tree.proofs.Lent.{own-at}
-use Rattle.tree.proofs.Sitting.{sits-own, sits-count, sits-most, sits-child, sits-below, sits-rest}
+use Rattle.lend.proofs.Lent.{own-at}
+use Rattle.tree.proofs.Saying.{root-count}
+use Rattle.tree.proofs.Sitting.{sits-own, sits-most, sits-child, sits-below, sits-rest}
 use Rattle.tree.proofs.Paths.{behind, no-length, behindBack, behind-is, behind-back, from, fromBack, from-drop, from-back, from-same, path-from}
 use Rattle.tree.proofs.Stepping.{rising-child, Way, Seam, forward, forward-seam, backward, backward-seam, backward-start, step-still, step-below, step-end, step-over}
 
@@ -88,7 +89,7 @@ module _ (w : List ℕ) (p at : ℕ) (aim : Aim) (ps ss : List ℕ) where
 pub holds-own : (w : List ℕ) (low h : ℕ) (t : Tree (suc h)) (i : ℕ) → Sits w low (suc h) t → holdsAt most (pageOf w (t .page)) i 0 ≡ ltb i (length (t .own))
 holds-own w low h t i u =
     let page = pageOf w (t .page) in
-    let n = sits-count w low h t u in
+    let n = root-count w h t (u .stands) in
     either-lt i (length (t .own))
     (λ l. holds-at most page i 0 (omega (arith, sits-most w low h t u)) (omega arith) (omega arith) ∙ sym (lt-ltb i (length (t .own)) l))
     (λ l. rw (le-ltb i (length (t .own)) l) (either (holdsAt most page i 0) (λ y. let f = holds-facts most page i 0 y in absurd (omega arith)) (λ no. no)))
@@ -148,7 +149,7 @@ module _ (w : List ℕ) (s i : ℕ) (aim : Aim) where
           let r = c′ .exact least h (child h t i) (omega arith) (sits-child w low h t u i m) (rising-child w low h t i u up m)
           (λ a. rw g (sits-below w low h t u a i m)) in
           let x : entry k v ≡ getD (t .own) s noEntry =
-          e ∙ ap (λ (q : ℕ). entryIn most (pageOf w q) s) g ∙ own-at (pageOf w (t .page)) s (omega (arith, sits-count w low h t u))
+          e ∙ ap (λ (q : ℕ). entryIn most (pageOf w q) s) g ∙ own-at (pageOf w (t .page)) s (omega (arith, root-count w h t (u .stands)))
           ∙ ap (λ (l : List Entry). getD l s noEntry) (sits-own w low h t u) in
           rw (r .0, r .1, r .2, g) (ap (λ (y : Entry). step.Entry (y .key) (y .value)) x, refl, refl)
 

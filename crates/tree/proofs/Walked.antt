@@ -14,8 +14,8 @@ use Rattle.model.specs.Layout.{least, pagesIn}
 use Rattle.model.specs.PageMap.{mapOf, bitAt}
 use Rattle.model.specs.Tree.{Entry, Tree, weave, entries, times, Rising, Shaped, pagesBelow}
 use Rattle.model.specs.Page.{pageOf, countOf, heightOf, entriesOf, childrenOf, readTree, Heights}
+use Rattle.lend.specs.Pages.{most}
 use Rattle.tree.specs.declared.check.Tally.the-variants as tally
-use Rattle.tree.specs.Pages.{most}
 use Rattle.tree.specs.Check.{standTests, inTurn, overTree}
 use Rattle.model.proofs.Cases.{either, either-lt, either-eq, contrary, same-self, same-other}
 use Rattle.model.proofs.Lists.{all-map, all-both, all-image, every-true, every-all}

@@ -15,10 +15,10 @@ use Rattle.model.specs.Lists.{every}
 use Rattle.model.specs.Layout.{least, firstWord, pagesIn}
 use Rattle.model.specs.Tree.{Entry, entry, noEntry}
 use Rattle.model.specs.Page.{pageOf, countOf, childIn, entryIn, entriesOf, childrenOf}
-use Rattle.tree.specs.declared.check.Tally.{Tally}
+use Rattle.lend.specs.Pages.{most, Inside}
 use Rattle.tree.specs.declared.check.Tally.the-variants as tally
+use Rattle.tree.specs.declared.check.Tally.{Tally}
 use Rattle.tree.specs.declared.search.Below.the-variants as below
-use Rattle.tree.specs.Pages.{most, Inside}
 use Rattle.tree.specs.Search.{belowOf}
 use Rattle.tree.specs.Check.{standTests, keyRises, valueFits, entryTests, overEntry, overEntryAt, inTurn, overTree, Walks}
 use Rattle.model.proofs.Cases.{either, either-lt}

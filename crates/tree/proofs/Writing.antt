@@ -21,8 +21,8 @@ use Rattle.model.specs.Written.{Written}
 use Rattle.page.specs.declared.Change.{Change}
 use Rattle.page.specs.Node.{instead}
 use Rattle.page.specs.Page.{holdsAt}
+use Rattle.lend.specs.Pages.{most, ChangesIn, nodeIn}
 use Rattle.tree.specs.declared.steps.Spot.the-variants as spot
-use Rattle.tree.specs.Pages.{most, ChangesIn, nodeIn}
 use Rattle.tree.specs.Steps.{spotOf}
 use Rattle.tree.specs.Write.{Writes}
 use Rattle.model.proofs.Cases.{either-lt, same-self, same-eq, either-eq}
@@ -35,8 +35,8 @@ use Rattle.model.proofs.Standing.{set-standing, all-standing}
 use Rattle.model.proofs.Right.{Right, sound-right}
 use Rattle.model.proofs.Written.{sound-written}
 use Rattle.page.proofs.Pages.{holds-at}
-use Rattle.tree.proofs.Lent.{own-at}
-use Rattle.tree.proofs.Touching.{only-map, front-word}
+use Rattle.lend.proofs.Lent.{own-at}
+use Rattle.lend.proofs.Touching.{only-map, front-word}
 use Rattle.tree.proofs.Leaving.{Leaves, leaves-written, head-word, key-stays}
 
 -- ---- entry g of a tree, at slot s of page p

@@ -15,9 +15,9 @@ use Rattle.model.specs.Tree.{Entry, Rising, held}
 use Rattle.model.specs.Page.{pageOf, countOf, heightOf, entryIn, entriesOf, childrenOf}
 use Rattle.model.specs.Entries.{has}
 use Rattle.model.specs.Pool.{wholeOf}
-use Rattle.tree.specs.declared.check.Tally.{Tally}
+use Rattle.lend.specs.Pages.{most}
 use Rattle.tree.specs.declared.check.Tally.the-variants as tally
-use Rattle.tree.specs.Pages.{most}
+use Rattle.tree.specs.declared.check.Tally.{Tally}
 use Rattle.tree.specs.Sits.{Sits}
 
 -- ---- one page

@@ -14,22 +14,22 @@ use Rattle.model.specs.Tree.{Entry, Node, Tree, size, times, noEntry}
 use Rattle.model.specs.Page.{pageOf, countOf, heightOf, Holds}
 use Rattle.model.specs.Standing.{numberOf, Standing}
 use Rattle.model.specs.Gap.{gapPages}
-use Rattle.model.specs.Insert.{whole, split, cutLeft, cutRight, insertAt, onward, run, needed}
 use Rattle.model.specs.Insert as insertion
-use Rattle.model.specs.Pool.{heldBy, poolOf, gapBy, freshOf}
-use Rattle.model.specs.Sound.{Sound}
+use Rattle.model.specs.Insert.{whole, split, cutLeft, cutRight, insertAt, onward, run, needed}
+use Rattle.model.specs.Pool.{poolOf, gapBy, freshOf}
 use Rattle.model.specs.Written.{Written}
 use Rattle.model.specs.MapCalls.{putAt, crowded}
 use Rattle.pagemap.specs.declared.Lowest.the-variants as lowest
 use Rattle.pagemap.specs.Bits.{setBit}
 use Rattle.pagemap.specs.Lowest.{freeIn, firstOf}
 use Rattle.page.specs.Node.{alone, wider}
-use Rattle.tree.specs.declared.insert.Inserted.{Inserted}
+use Rattle.lend.specs.Pages.{most, keeps, OnlyPages, nodeIn, Becomes}
+use Rattle.lend.specs.Touches.{Touches}
 use Rattle.tree.specs.declared.insert.Inserted.the-variants as inserted
-use Rattle.tree.specs.declared.insert.Up.{Up}
+use Rattle.tree.specs.declared.insert.Inserted.{Inserted}
 use Rattle.tree.specs.declared.insert.Up.the-variants as up
-use Rattle.tree.specs.Pages.{most, keeps, OnlyPages, nodeIn, Becomes}
-use Rattle.tree.specs.Sits.{PathOf, Sits, Touches}
+use Rattle.tree.specs.declared.insert.Up.{Up}
+use Rattle.tree.specs.Sits.{PathOf, Sits, AtGap}
 
 -- the free pages by the map's words, lowest first
 abbrev pub freesIn : List ℕ → List ℕ
@@ -136,9 +136,7 @@ insertedBy false = inserted.Done
 pub record Inserts (w ps ss : List ℕ) (e : Entry) (w′ : List ℕ) (r : Inserted) : Type 0 where
   pub long : length w′ ≡ length w
   pub kept : r ≡ inserted.Full → w′ ≡ w
-  pub exact : (g : ℕ) → Sound w → g ≤ length (heldBy (poolOf w)) → PathOf (poolOf w .whole .levels) (poolOf w .whole .tree) g ps ss
-      → r ≡ insertedBy (crowded g (poolOf w))
-  pub holds : (g : ℕ) → Sound w → g ≤ length (heldBy (poolOf w)) → gapBy (poolOf w) ≤ g → PathOf (poolOf w .whole .levels) (poolOf w .whole .tree) g ps ss
-      → crowded g (poolOf w) ≡ false → Written w′ (putAt g e (poolOf w))
-  pub others : (g : ℕ) → Sound w → g ≤ length (heldBy (poolOf w)) → PathOf (poolOf w .whole .levels) (poolOf w .whole .tree) g ps ss
-      → crowded g (poolOf w) ≡ false → (q : ℕ) → All (λ p. q ≢ p) (ps ++ tab (needed least (poolOf w .whole) g) (freshOf (poolOf w))) → pageOf w′ q ≡ pageOf w q
+  pub exact : AtGap w ps ss (λ g. r ≡ insertedBy (crowded g (poolOf w)))
+  pub holds : AtGap w ps ss (λ g. gapBy (poolOf w) ≤ g → crowded g (poolOf w) ≡ false → Written w′ (putAt g e (poolOf w)))
+  pub others : AtGap w ps ss (λ g. crowded g (poolOf w) ≡ false
+      → (q : ℕ) → All (λ p. q ≢ p) (ps ++ tab (needed least (poolOf w .whole) g) (freshOf (poolOf w))) → pageOf w′ q ≡ pageOf w q)

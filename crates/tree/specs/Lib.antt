@@ -1,5 +1,4 @@
 -- What the tree's promises are said with.
-pub mod Pages
 pub mod Sits
 pub mod Search
 pub mod Steps

@@ -15,23 +15,23 @@ use Rattle.model.specs.Page.{pageOf, countOf, heightOf, entriesOf}
 use Rattle.model.specs.Standing.{numberOf, Standing}
 use Rattle.model.specs.Gap.{slotAt, restAt, childAt}
 use Rattle.model.specs.Mend.{Plan, keep, move, join, plan, mend, spare}
-use Rattle.model.specs.Remove.{planAt, removeAt, freedAt, remove}
 use Rattle.model.specs.Remove as removal
-use Rattle.model.specs.Pool.{heldBy, poolOf, gapBy, withWhole}
-use Rattle.model.specs.Sound.{Sound}
+use Rattle.model.specs.Remove.{planAt, removeAt, freedAt, remove}
+use Rattle.model.specs.Pool.{poolOf, gapBy, withWhole}
 use Rattle.model.specs.Written.{Written}
 use Rattle.pagemap.specs.Bits.{clearBit}
-use Rattle.page.specs.declared.Change.{Change}
 use Rattle.page.specs.declared.Change.the-variants as change
+use Rattle.page.specs.declared.Change.{Change}
 use Rattle.page.specs.Node.{less, instead}
-use Rattle.tree.specs.declared.remove.Gone.{Gone}
+use Rattle.lend.specs.Pages.{most, OnlyPages, nodeIn, Becomes, glued, canGive, canGet, canJoin, MovesIn}
+use Rattle.lend.specs.Touches.{Touches}
 use Rattle.tree.specs.declared.remove.Gone.the-variants as gone
-use Rattle.tree.specs.declared.remove.Mending.{Mending}
+use Rattle.tree.specs.declared.remove.Gone.{Gone}
 use Rattle.tree.specs.declared.remove.Mending.the-variants as mending
-use Rattle.tree.specs.declared.search.Below.{Below}
+use Rattle.tree.specs.declared.remove.Mending.{Mending}
 use Rattle.tree.specs.declared.search.Below.the-variants as below
-use Rattle.tree.specs.Pages.{most, OnlyPages, nodeIn, Becomes, glued, canGive, canGet, canJoin, MovesIn}
-use Rattle.tree.specs.Sits.{PathOf, Sits, Touches}
+use Rattle.tree.specs.declared.search.Below.{Below}
+use Rattle.tree.specs.Sits.{PathOf, Sits, AtEntry}
 use Rattle.tree.specs.Search.{belowOf}
 use Rattle.tree.specs.Insert.{Marked, Rooted}
 use Rattle.model.proofs.Mend.{Loose}
@@ -177,8 +177,6 @@ nearIn (suc h) t g = nearPages h t g
 pub record Removes (w ps ss w′ : List ℕ) (r : Change) : Type 0 where
   pub long : length w′ ≡ length w
   pub kept : r ≡ change.Unsound → w′ ≡ w
-  pub sound : (g : ℕ) → Sound w → g < length (heldBy (poolOf w)) → PathOf (poolOf w .whole .levels) (poolOf w .whole .tree) g ps ss → r ≡ change.Done
-  pub holds : (g : ℕ) → Sound w → g < length (heldBy (poolOf w)) → gapBy (poolOf w) ≤ g → PathOf (poolOf w .whole .levels) (poolOf w .whole .tree) g ps ss
-      → Written w′ (withWhole (poolOf w) (remove least (poolOf w .whole) g))
-  pub others : (g : ℕ) → Sound w → g < length (heldBy (poolOf w)) → PathOf (poolOf w .whole .levels) (poolOf w .whole .tree) g ps ss
-      → (q : ℕ) → All (λ p. q ≢ p) (nearIn (poolOf w .whole .levels) (poolOf w .whole .tree) g) → pageOf w′ q ≡ pageOf w q
+  pub sound : AtEntry w ps ss (λ g. r ≡ change.Done)
+  pub holds : AtEntry w ps ss (λ g. gapBy (poolOf w) ≤ g → Written w′ (withWhole (poolOf w) (remove least (poolOf w .whole) g)))
+  pub others : AtEntry w ps ss (λ g. (q : ℕ) → All (λ p. q ≢ p) (nearIn (poolOf w .whole .levels) (poolOf w .whole .tree) g) → pageOf w′ q ≡ pageOf w q)

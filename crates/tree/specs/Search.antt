@@ -10,26 +10,26 @@ use lib.Dec.{leb, ltb, eqb}
 use lib.ListN.{length}
 use Rattle.model.specs.Lists.{every}
 use Rattle.model.specs.Layout.{pagesIn}
-use Rattle.model.specs.Tree.{Tree, entries, Rising}
+use Rattle.model.specs.Tree.{Tree}
 use Rattle.model.specs.Page.{pageOf, countOf, heightOf, childIn}
 use Rattle.model.specs.Entries.{lookup, gapOf}
 use Rattle.model.specs.Gap.{Found, seekPages, seekSlots, find}
 use Rattle.model.specs.Pool.{heldBy, poolOf}
 use Rattle.model.specs.Sound.{Sound}
 use Rattle.model.specs.MapCalls.{pagesRead}
-use Rattle.page.specs.declared.Place.{Place}
 use Rattle.page.specs.declared.Place.the-variants as place
+use Rattle.page.specs.declared.Place.{Place}
 use Rattle.page.specs.Page.{counted, placeOf}
-use Rattle.tree.specs.declared.search.Aim.{Aim}
+use Rattle.lend.specs.Pages.{most}
 use Rattle.tree.specs.declared.search.Aim.the-variants.{Before, After, Start, End}
-use Rattle.tree.specs.declared.search.Below.{Below}
+use Rattle.tree.specs.declared.search.Aim.{Aim}
 use Rattle.tree.specs.declared.search.Below.the-variants as below
-use Rattle.tree.specs.declared.search.Got.{Got}
+use Rattle.tree.specs.declared.search.Below.{Below}
 use Rattle.tree.specs.declared.search.Got.the-variants as got
-use Rattle.tree.specs.declared.search.Slot.{Slot}
+use Rattle.tree.specs.declared.search.Got.{Got}
 use Rattle.tree.specs.declared.search.Slot.the-variants as slot
-use Rattle.tree.specs.Pages.{most}
-use Rattle.tree.specs.Sits.{PathIn, PathOf, Sits}
+use Rattle.tree.specs.declared.search.Slot.{Slot}
+use Rattle.tree.specs.Sits.{PathIn, PathOf, Sits, From}
 
 -- ---- one page
 
@@ -100,11 +100,9 @@ pub record SeeksBelow (w : List ℕ) (p : ℕ) (aim : Aim) (ps ss ps′ ss′ : 
   pub pages : length ps′ ≡ length ps
   pub slots : length ss′ ≡ length ss
   pub inside : r ≡ true → PathIn w ps′ ss′
-  pub sound : (low h : ℕ) (t : Tree (suc h)) → length ps ≡ suc h → Sits w low (suc h) t → Rising (entries (suc h) t) → t .page ≡ p → r ≡ true
-  pub pages-are : (low h : ℕ) (t : Tree (suc h)) → length ps ≡ suc h → Sits w low (suc h) t → Rising (entries (suc h) t) → t .page ≡ p
-      → ps′ ≡ seekPages (aimed aim) (suc h) t
-  pub slots-are : (low h : ℕ) (t : Tree (suc h)) → length ps ≡ suc h → Sits w low (suc h) t → Rising (entries (suc h) t) → t .page ≡ p
-      → ss′ ≡ seekSlots (aimed aim) (suc h) t
+  pub sound : From w p (length ps) (λ h t. r ≡ true)
+  pub pages-are : From w p (length ps) (λ h t. ps′ ≡ seekPages (aimed aim) (suc h) t)
+  pub slots-are : From w p (length ps) (λ h t. ss′ ≡ seekSlots (aimed aim) (suc h) t)
 
 -- the path of the gap, root first
 pub record Seeks (w : List ℕ) (aim : Aim) (ps ss ps′ ss′ : List ℕ) (r : Bool) : Type 0 where

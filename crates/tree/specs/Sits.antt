@@ -1,23 +1,18 @@
--- What the tree's functions are asked and given about a pool: a length that has room for the map and for P pages, a path of pages inside it, the tree
--- that stands in it, and which of its words may have changed.
+-- What the tree's functions are asked and given about a pool: a path of pages inside it, and the tree that stands in it.
 -- Assumes nothing: these are definitions.
 use mathlib.Core.Path.{_≡_}
-use mathlib.Core.Logic.{_≢_}
-use mathlib.Core.List.{List, []}
-use Prim.Native.Nat.{ℕ, _≤_, _<_}
-use lib.ListN.{length, take}
+use mathlib.Core.List.{List}
+use Prim.Native.Nat.{ℕ, suc, _≤_, _<_}
+use lib.ListN.{length}
 use Rattle.model.specs.Lists.{All}
-use Rattle.model.specs.Layout.{headWords, mostPages, least, firstWord, pagesIn}
-use Rattle.model.specs.PageMap.{mapOf}
-use Rattle.model.specs.Tree.{Tree, times, Shaped}
+use Rattle.model.specs.Layout.{least, pagesIn}
+use Rattle.model.specs.Tree.{Tree, entries, size, times, Rising, Shaped}
 use Rattle.model.specs.Page.{pageOf}
 use Rattle.model.specs.Standing.{Standing}
 use Rattle.model.specs.Gap.{gapPages, gapSlots}
-use Rattle.tree.specs.Pages.{most, Inside}
-
--- the head and the map are there, and P is at most 4,096
-abbrev pub Sized : List ℕ → Type 0
-Sized w = (firstWord 0 ≤ length w) × (length w ≤ firstWord mostPages)
+use Rattle.model.specs.Pool.{heldBy, poolOf}
+use Rattle.model.specs.Sound.{Sound}
+use Rattle.lend.specs.Pages.{most, Inside}
 
 -- a path inside the pool: a page and a slot for each level, root first
 pub record PathIn (w ps ss : List ℕ) : Type 0 where
@@ -37,13 +32,17 @@ pub record Sits (w : List ℕ) (low h : ℕ) (t : Tree h) : Type 0 where
   pub shaped : Shaped least low h t
   pub inside : (q : ℕ) → 0 < times q h t → q < pagesIn (length w)
 
--- no word of the head and of other pages than ps is changed
-pub record Touches (ps w w′ : List ℕ) : Type 0 where
-  pub long : length w′ ≡ length w
-  pub head : take headWords w′ ≡ take headWords w
-  pub others : (q : ℕ) → All (λ p. q ≢ p) ps → pageOf w′ q ≡ pageOf w q
+-- for each tree that sits there with rising keys, and each gap of it that has this path
+abbrev pub Along : List ℕ → List ℕ → List ℕ → ((h : ℕ) → Tree h → ℕ → Type 0) → Type 0
+Along w ps ss P = (low h : ℕ) (t : Tree h) (g : ℕ) → Sits w low h t → Rising (entries h t) → g ≤ size h t → PathOf h t g ps ss → P h t g
 
--- the map's words become m, and no other word is changed
-pub record MapBecomes (m w w′ : List ℕ) : Type 0 where
-  pub map : mapOf w′ ≡ m
-  pub keeps : Touches [] w w′
+-- for each such tree of n levels whose root is page p
+abbrev pub From : List ℕ → ℕ → ℕ → ((h : ℕ) → Tree (suc h) → Type 0) → Type 0
+From w p n P = (low h : ℕ) (t : Tree (suc h)) → n ≡ suc h → Sits w low (suc h) t → Rising (entries (suc h) t) → t .page ≡ p → P h t
+
+-- in a sound pool: of each gap that has this path, and of each entry just after such a gap
+abbrev pub AtGap : List ℕ → List ℕ → List ℕ → (ℕ → Type 0) → Type 0
+AtGap w ps ss P = (g : ℕ) → Sound w → g ≤ length (heldBy (poolOf w)) → PathOf (poolOf w .whole .levels) (poolOf w .whole .tree) g ps ss → P g
+
+abbrev pub AtEntry : List ℕ → List ℕ → List ℕ → (ℕ → Type 0) → Type 0
+AtEntry w ps ss P = (g : ℕ) → Sound w → g < length (heldBy (poolOf w)) → PathOf (poolOf w .whole .levels) (poolOf w .whole .tree) g ps ss → P g

@@ -13,14 +13,14 @@ use Rattle.model.specs.Standing.{numberOf}
 use Rattle.model.specs.Entries.{next, prev, forth, back}
 use Rattle.model.specs.Gap.{slotAt, restAt, child, childAt, seekPages, seekSlots}
 use Rattle.page.specs.Page.{holdsAt}
+use Rattle.lend.specs.Pages.{most, Inside}
 use Rattle.tree.specs.declared.search.Aim.{Aim}
 use Rattle.tree.specs.declared.search.Below.the-variants as below
-use Rattle.tree.specs.declared.steps.Spot.{Spot}
 use Rattle.tree.specs.declared.steps.Spot.the-variants as spot
-use Rattle.tree.specs.declared.steps.Step.{Step}
+use Rattle.tree.specs.declared.steps.Spot.{Spot}
 use Rattle.tree.specs.declared.steps.Step.the-variants as step
-use Rattle.tree.specs.Pages.{most, Inside}
-use Rattle.tree.specs.Sits.{PathIn, PathOf, Sits}
+use Rattle.tree.specs.declared.steps.Step.{Step}
+use Rattle.tree.specs.Sits.{PathIn, PathOf, Sits, Along}
 use Rattle.tree.specs.Search.{belowOf, aimed}
 
 -- the page and the slot of entry g
@@ -61,15 +61,17 @@ deepest here (p ∷ ps) (s ∷ ss) = orElse (deepest here ps ss) (here p s)
 abbrev pub Within : List ℕ → Spot → Type 0
 Within w r = (p s : ℕ) → r ≡ spot.At p s → Inside p w × (s < most)
 
-pub record SpotAfter (w ps ss : List ℕ) (r : Spot) : Type 0 where
-  pub looked : r ≡ deepest (hereAfter w) ps ss
+-- what `here` says of the path's pages, and `found` of a tree's gap
+pub record Spots (here : List ℕ → ℕ → ℕ → Spot) (found : (h : ℕ) → Tree h → ℕ → Spot) (w ps ss : List ℕ) (r : Spot) : Type 0 where
+  pub looked : r ≡ deepest (here w) ps ss
   pub within : Within w r
-  pub exact : (low h : ℕ) (t : Tree h) (g : ℕ) → Sits w low h t → g ≤ size h t → PathOf h t g ps ss → r ≡ spotOf h t g
+  pub exact : (low h : ℕ) (t : Tree h) (g : ℕ) → Sits w low h t → g ≤ size h t → PathOf h t g ps ss → r ≡ found h t g
 
-pub record SpotBefore (w ps ss : List ℕ) (r : Spot) : Type 0 where
-  pub looked : r ≡ deepest (hereBefore w) ps ss
-  pub within : Within w r
-  pub exact : (low h : ℕ) (t : Tree h) (g : ℕ) → Sits w low h t → g ≤ size h t → PathOf h t g ps ss → r ≡ spotBefore h t g
+abbrev pub SpotAfter : List ℕ → List ℕ → List ℕ → Spot → Type 0
+SpotAfter w ps ss r = Spots hereAfter spotOf w ps ss r
+
+abbrev pub SpotBefore : List ℕ → List ℕ → List ℕ → Spot → Type 0
+SpotBefore w ps ss r = Spots hereBefore spotBefore w ps ss r
 
 -- ---- what a step answers
 
@@ -83,9 +85,8 @@ pub record Steps (over : ℕ → List Entry → Option Entry) (to : Option Entry
   pub slots : length ss′ ≡ length ss
   pub inside : (k v : ℕ) → r ≡ step.Entry k v → PathIn w ps′ ss′
   pub still : r ≡ step.End → (ps′ ≡ ps) × (ss′ ≡ ss)
-  pub exact : (low h : ℕ) (t : Tree h) (g : ℕ) → Sits w low h t → Rising (entries h t) → g ≤ size h t → PathOf h t g ps ss → r ≡ stepBy (over g (entries h t))
-  pub path : (low h : ℕ) (t : Tree h) (g : ℕ) → Sits w low h t → Rising (entries h t) → g ≤ size h t → PathOf h t g ps ss
-      → PathOf h t (to (over g (entries h t)) g) ps′ ss′
+  pub exact : Along w ps ss (λ h t g. r ≡ stepBy (over g (entries h t)))
+  pub path : Along w ps ss (λ h t g. PathOf h t (to (over g (entries h t)) g) ps′ ss′)
 
 -- ---- a step at one page
 

@@ -8,8 +8,8 @@ use Rattle.model.specs.Write.{write}
 use Rattle.model.specs.Pool.{heldBy, poolOf, withWhole}
 use Rattle.model.specs.Sound.{Sound}
 use Rattle.model.specs.Written.{Written}
+use Rattle.lend.specs.Pages.{OnlyPages}
 use Rattle.tree.specs.declared.steps.Spot.the-variants as spot
-use Rattle.tree.specs.Pages.{OnlyPages}
 use Rattle.tree.specs.Steps.{spotOf}
 
 -- the value v in the place of that of the entry at slot s of page p; r is the value before

@@ -4,13 +4,13 @@ ghost use mathlib.Core.Path.{_≡_};
 ghost use Prim.Native.Nat.{suc, _≤_};
 ghost use lib.ListN.{length};
 ghost use Rattle.model.specs.Layout.{firstWord};
-ghost use Rattle.tree.specs.Pages.{Inside};
+ghost use Rattle.lend.specs.Pages.{Inside};
 ghost use Rattle.tree.specs.Sits.{PathIn};
 ghost use Rattle.tree.specs.Steps.{SpotAfter, SpotBefore, Turns, Overs, Forth, Back};
-use crate::pages;
 use crate::search;
 use crate::search::Aim;
 use crate::search::Below;
+use lend::pages;
 use model::MOST;
 use page::Entry;
 

@@ -1,8 +1,8 @@
 // An entry overwritten where it stands, as insert of a key present, replace, write next and write prev do. No page is needed or freed.
 ghost use Prim.Native.Nat.{_<_};
-ghost use Rattle.tree.specs.Pages.{most, Inside};
+ghost use Rattle.lend.specs.Pages.{most, Inside};
 ghost use Rattle.tree.specs.Write.{Writes};
-use crate::pages;
+use lend::pages;
 
 // Another value for the entry at a page's slot; the answer is the value before.
 pub fn write(pool: &mut [u64], p: usize, slot: usize, value: u64) -> u64

@@ -1,18 +1,17 @@
-// What the tree answers, held against the table: values, gaps, and the whole list forth and back.
+// What the tree answers, held against the table: gaps, and the whole list forth and back.
 ghost use mathlib.Core.Path.{_≡_};
 ghost use mathlib.Core.Bool.{true};
 ghost use Prim.Native.Nat.{_≤_, _<_};
 ghost use lib.ListN.{length};
 ghost use Rattle.model.specs.Layout.{firstWord};
 ghost use Rattle.model.specs.Head.{levelsWord, headed};
-ghost use Rattle.tree.specs.Pages.{most, Inside};
+ghost use Rattle.lend.specs.Pages.{most, Inside};
 ghost use Rattle.tree.specs.Sits.{PathIn};
 use crate::table::is_at;
 use crate::table::key_of;
 use crate::table::place_before;
 use crate::table::place_from;
 use tree::search::Aim;
-use tree::search::Got;
 use tree::steps::Spot;
 use tree::steps::Step;
 
@@ -20,7 +19,7 @@ use tree::steps::Step;
 fn is_entry(pool: &[u64], p: usize, slot: usize, table: &[u64], place: usize) -> bool
     requires { ⌜ Inside p (now pool) × (slot < most) ⌝ }
 {
-    let e = tree::pages::entry_at(pool, p, slot);
+    let e = lend::pages::entry_at(pool, p, slot);
     is_at(e.key, e.value, table, place)
 }
 
@@ -78,10 +77,10 @@ fn found_by(
 }
 
 pub fn found(pool: &[u64], aim: Aim, table: &[u64], last: usize, next: usize) -> bool {
-    if !tree::head::fits(pool) {
+    if !lend::head::fits(pool) {
         return false;
     }
-    let n = tree::head::levels(pool);
+    let n = lend::head::levels(pool);
     let mut pages = [0usize; 6];
     let mut slots = [0usize; 6];
     found_by(
@@ -153,33 +152,20 @@ fn listed_by(pool: &[u64], pages: &mut [usize], slots: &mut [usize], table: &[u6
 }
 
 pub fn listed(pool: &[u64], table: &[u64]) -> bool {
-    if !tree::head::fits(pool) {
+    if !lend::head::fits(pool) {
         return false;
     }
-    let n = tree::head::levels(pool);
+    let n = lend::head::levels(pool);
     let mut pages = [0usize; 6];
     let mut slots = [0usize; 6];
     listed_by(pool, &mut pages[0..n], &mut slots[0..n], table)
 }
 
-// Whether a search by key answers as the table does.
-pub fn got(pool: &[u64], table: &[u64], place: usize) -> bool
-    requires { ⌜ (place < 4096) × (place < length (now table)) ⌝ }
-{
-    if !tree::head::fits(pool) {
+// Whether the gaps of a key, of the start and of the end are where the table has them.
+pub fn gaps(pool: &[u64], table: &[u64], place: usize) -> bool {
+    if table.len() <= place {
         return false;
     }
-    match tree::search::get(pool, key_of(place)) {
-        Got::Value(v, _) => v == table[place],
-        Got::Absent => table[place] == 0,
-        Got::Unsound => false,
-    }
-}
-
-// Whether the gaps of a key, of the start and of the end are where the table has them.
-pub fn gaps(pool: &[u64], table: &[u64], place: usize) -> bool
-    requires { ⌜ (place < 4096) × (place < length (now table)) ⌝ }
-{
     let key = key_of(place);
     let last = place_before(table, place);
     if !found(

@@ -1,32 +1,36 @@
-// The table: a place for every key, 0 where it has none. An ordered map by itself, for its places are in key order.
-ghost use Prim.Native.Nat.{_≤_, _<_};
-ghost use lib.ListN.{length};
+// The table: a place for every key, 0 where it has none. An ordered map by itself, for its places are in key order. A place past its end has no entry, and nothing is stored there.
+ghost use Prim.Native.Nat.{_≤_};
 
 // Places of the table.
 pub const PLACES: usize = 4096;
 
+// What a word holds where no call has written: no key of the table and no value of a trial.
+pub const UNTOUCHED: u64 = 77777777777;
+
 // A key for each place, rising; the last is 2^64 - 1.
-pub fn key_of(place: usize) -> u64
-    requires { ⌜ place < 4096 ⌝ }
-{
-    place as u64 * 4503599627370496 + 4503599627370495
+pub fn key_of(place: usize) -> u64 {
+    ((place as u64) << 52) | 4503599627370495
 }
 
-// The first n words.
-pub fn fill(words: &mut [u64], n: usize, word: u64)
-    requires { ⌜ n ≤ length (now words) ⌝ }
-{
-    let mut i: usize = 0;
-    while i < n {
-        words[i] = word;
-        i += 1;
+pub fn value_at(table: &[u64], place: usize) -> u64 {
+    if place < table.len() {
+        return table[place];
+    }
+    0
+}
+
+pub fn put(table: &mut [u64], place: usize, value: u64) {
+    if place < table.len() {
+        table[place] = value;
     }
 }
 
-pub fn store(words: &mut [u64], i: usize, word: u64)
-    requires { ⌜ i < length (now words) ⌝ }
-{
-    words[i] = word;
+// The place after a place.
+pub fn after(place: usize) -> usize {
+    if place < PLACES {
+        return place + 1;
+    }
+    place
 }
 
 // The first place from `place` on that has an entry, or the table's end.
@@ -45,12 +49,11 @@ pub fn place_from(table: &[u64], place: usize) -> usize
 
 // One more than the last place before `place` that has an entry; 0 where there is none.
 pub fn place_before(table: &[u64], place: usize) -> usize
-    requires { ⌜ place ≤ length (now table) ⌝ }
     ensures { λ r. ⌜ r ≤ place ⌝ }
 {
     let mut i = place;
     while 0 < i {
-        if table[i - 1] != 0 {
+        if value_at(table, i - 1) != 0 {
             return i;
         }
         i -= 1;
@@ -58,11 +61,21 @@ pub fn place_before(table: &[u64], place: usize) -> usize
     0
 }
 
+// How many places from `first` on, before `last`, have an entry.
+pub fn held(table: &[u64], first: usize, last: usize) -> usize {
+    let mut n: usize = 0;
+    let mut i = first;
+    while i < last {
+        if value_at(table, i) != 0 {
+            n = std::num::wrapping_add_usize(n, 1);
+        }
+        i += 1;
+    }
+    n
+}
+
 // Whether an entry is that of the place.
 pub fn is_at(key: u64, value: u64, table: &[u64], place: usize) -> bool {
-    if PLACES <= place {
-        return false;
-    }
     if table.len() <= place {
         return false;
     }

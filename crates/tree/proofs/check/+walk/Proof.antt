@@ -12,21 +12,21 @@ use borrow.Fn.PlainCycle.{Measures, is, falls, and}
 use Rattle.model.specs.Lists.{every}
 use Rattle.model.specs.Layout.{least}
 use Rattle.model.specs.Page.{pageOf, countOf}
+use Rattle.lend.specs.Pages.{most}
 use Rattle.tree.specs.declared.check.Tally.{Tally}
 use Rattle.tree.specs.declared.search.Below.the-variants as below
-use Rattle.tree.specs.Pages.{most}
 use Rattle.tree.specs.Search.{belowOf}
 use Rattle.tree.specs.Check.{standTests, Walks}
 use Rattle.model.proofs.Lists.{every-true}
 use Rattle.tree.proofs.Walking.{Going, Child, stand-broken, going-start, child-none, child-some, below-found, below-broken, walk-broken, entry-broken, going-step, going-end}
 use Rattle.tree.proofs.check.+walk.{statement}
-use Rattle.tree.proofs.check.+walk.Lts-walk as lts
 use Rattle.tree.proofs.check.walk.Kinds as walk-kinds
+use Rattle.lend.proofs.pages.count.Reads as count-reads
+use Rattle.tree.proofs.check.+walk.Lts-walk as lts
 use Rattle.tree.proofs.check.+walk.Tie.{close}
 use Rattle.tree.proofs.check.meet.Reads as meet-reads
 use Rattle.tree.proofs.check.stands.Reads as stands-reads
 use Rattle.tree.proofs.check.walk.Reads as walk
-use Rattle.tree.proofs.pages.count.Reads as count-reads
 use Rattle.tree.proofs.search.child.Reads as child-reads
 
 abbrev μ-walk : Measures 1 walk-kinds.ps ℕ

@@ -6,11 +6,11 @@ use native.Mathlib.Omega.{arith}
 use borrow.Author.Needs.{needs}
 use borrow.Author.Tests.{not-true, not-false}
 use Rattle.model.specs.Head.{rootWord, levelsWord, headed}
-use Rattle.tree.specs.declared.check.Tally.{Tally}
 use Rattle.tree.specs.declared.check.Tally.the-variants as tally
+use Rattle.tree.specs.declared.check.Tally.{Tally}
 use Rattle.tree.specs.Check.{overTree, Walks}
 use Rattle.model.proofs.Head.{head-facts}
-use Rattle.tree.proofs.Heads.{head-long}
+use Rattle.lend.proofs.Fitting.{head-long}
 use Rattle.tree.proofs.Checking.{root-there, check-head, check-through, check-pages, check-entries, check-broken, walk-root, over-none, count-none}
 use Rattle.tree.proofs.check.check.Statement.{statement}
 use Rattle.tree.proofs.check.check.Tie as tie

@@ -6,10 +6,10 @@ use native.Mathlib.Omega.{arith}
 use denote.Enum.Declared.{tagOf}
 use borrow.Author.Needs.{needs}
 use Rattle.model.specs.Head.{rootWord, levelsWord, keyWord}
-use Rattle.tree.specs.declared.search.Got.{Got}
 use Rattle.tree.specs.declared.search.Got.the-variants as got
+use Rattle.tree.specs.declared.search.Got.{Got}
 use Rattle.tree.specs.Search.{GetsBelow}
-use Rattle.tree.proofs.Heads.{head-long}
+use Rattle.lend.proofs.Fitting.{head-long}
 use Rattle.tree.proofs.Checking.{root-there, cursor-start, cursor-closed, cursor-empty, cursor-lost, cursor-found}
 use Rattle.tree.proofs.search.Got.{the-type}
 use Rattle.tree.proofs.check.cursor.Statement.{statement}

@@ -11,7 +11,7 @@ use Rattle.model.specs.Lists.{every}
 use Rattle.model.specs.Layout.{pagesIn}
 use Rattle.model.specs.PageMap.{mapOf, bitAt}
 use Rattle.model.specs.Page.{pageOf, countOf, heightOf}
-use Rattle.tree.specs.Pages.{most}
+use Rattle.lend.specs.Pages.{most}
 use Rattle.tree.proofs.check.stands.Statement.{statement}
 use Rattle.tree.proofs.check.stands.Tie as tie
 

@@ -8,11 +8,11 @@ use lib.ListN.{length, length-set}
 use borrow.Author.Needs.{needs}
 use borrow.Author.Tests.{leb-true, leb-false, not-true, not-false}
 use Rattle.model.specs.Layout.{headWords, mostPages, least, mostEntries, firstWord, word}
-use Rattle.tree.specs.Sits.{Sized}
+use Rattle.lend.specs.Touches.{Sized}
 use Rattle.tree.specs.Insert.{freesIn}
 use Rattle.model.proofs.Head.{head-facts}
-use Rattle.tree.proofs.Touching.{front-word}
-use Rattle.tree.proofs.Heads.{headed-sized}
+use Rattle.lend.proofs.Touching.{front-word}
+use Rattle.lend.proofs.Fitting.{headed-sized}
 use Rattle.tree.proofs.Inserting.{Topped, topped-long, topped-count, inserts-full, inserts-done}
 use Rattle.tree.proofs.insert.insert.Statement.{statement}
 use Rattle.tree.proofs.insert.insert.Tie as tie

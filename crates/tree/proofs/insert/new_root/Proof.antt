@@ -4,7 +4,7 @@ use native.Mathlib.Omega.{arith}
 use lib.ListN.{length-set}
 use borrow.Author.Needs.{needs}
 use Rattle.model.specs.Tree.{entry}
-use Rattle.tree.specs.Pages.{Inside}
+use Rattle.lend.specs.Pages.{Inside}
 use Rattle.tree.proofs.Heads.{lowest-inside, roots-none, roots-done}
 use Rattle.tree.proofs.insert.new_root.Statement.{statement}
 use Rattle.tree.proofs.insert.new_root.Tie as tie

@@ -10,8 +10,8 @@ use Rattle.pagemap.specs.declared.Lowest.{Lowest}
 use Rattle.pagemap.specs.Lowest.{firstOf, took}
 use Rattle.page.specs.declared.Parting.{Parting}
 use Rattle.page.specs.Node.{wider}
-use Rattle.tree.specs.Pages.{most, nodeIn, canSplit, SplitsIn}
-use Rattle.tree.specs.Sits.{MapBecomes}
+use Rattle.lend.specs.Pages.{most, nodeIn, canSplit, SplitsIn}
+use Rattle.lend.specs.Touches.{MapBecomes}
 use Rattle.tree.specs.Insert.{freesIn}
 use Rattle.tree.proofs.Putting.{puts-room, puts-none, puts-inside, puts-split, puts-unsound}
 use Rattle.tree.proofs.insert.put.Statement.{statement}

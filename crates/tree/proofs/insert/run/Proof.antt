@@ -4,7 +4,7 @@ use Prim.Native.Nat.{ℕ, suc, _-_, _<_}
 use native.Mathlib.Omega.{arith}
 use lib.ListN.{length}
 use borrow.Author.Needs.{needs}
-use Rattle.tree.specs.Pages.{Inside}
+use Rattle.lend.specs.Pages.{Inside}
 use Rattle.model.proofs.Lists.{all-at}
 use Rattle.tree.proofs.Running.{Counted, counted-none, counted-room, counted-full, counted-all}
 use Rattle.tree.proofs.insert.run.Statement.{statement}

@@ -13,10 +13,10 @@ use Rattle.tree.specs.Remove.{Beside}
 use Rattle.tree.proofs.Paths.{path-at, path-front}
 use Rattle.tree.proofs.Neighbours.{can-refuse, can-above}
 use Rattle.tree.proofs.remove.+can_remove.{statement}
-use Rattle.tree.proofs.remove.+can_remove.Lts-can_remove as lts
 use Rattle.tree.proofs.remove.can_remove.Kinds as can-remove-kinds
+use Rattle.lend.proofs.pages.count.Reads as count-reads
+use Rattle.tree.proofs.remove.+can_remove.Lts-can_remove as lts
 use Rattle.tree.proofs.remove.+can_remove.Tie.{close}
-use Rattle.tree.proofs.pages.count.Reads as count-reads
 use Rattle.tree.proofs.remove.beside.Reads as beside-reads
 use Rattle.tree.proofs.remove.can_remove.Reads as can-remove
 

@@ -8,7 +8,7 @@ use borrow.Author.Needs.{needs}
 use borrow.Author.Tests.{not-true}
 use Rattle.model.specs.Page.{pageOf, countOf}
 use Rattle.model.proofs.Cases.{contrary}
-use Rattle.tree.proofs.Sitting.{sits-count}
+use Rattle.tree.proofs.Saying.{root-count}
 use Rattle.tree.proofs.Neighbours.{sits-sound}
 use Rattle.tree.proofs.remove.beside.Statement.{statement}
 use Rattle.tree.proofs.remove.beside.Tie as tie
@@ -36,7 +36,7 @@ neighbour-requires-2 c κs = search needs
 returns-2 : tie.Need-returns-2
 returns-2 c low h t s e b =
     let a = c .before .before .before .before .before .args in
-    let n : countOf (pageOf (a .pool .now) (a .u)) ≡ length (t .own) = rw e at (sits-count (a .pool .now) low (suc h) t s) in
+    let n : countOf (pageOf (a .pool .now) (a .u)) ≡ length (t .own) = rw e at (root-count (a .pool .now) (suc h) t (s .stands)) in
     (rw (add-one (a .i)) at (c .neighbour2 .ensures))
     ∙ sits-sound (a .pool .now) low h t s (a .u) (suc (a .i)) e (omega (arith, c .before .if3 .taken, c .before .before .count .ensures))
 

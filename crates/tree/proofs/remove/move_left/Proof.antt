@@ -5,8 +5,8 @@ use native.Mathlib.Numerals.{add-one}
 use native.Mathlib.Omega.{arith}
 use borrow.Author.Needs.{needs}
 use Rattle.model.specs.Page.{pageOf, countOf}
+use Rattle.lend.specs.Pages.{canGive}
 use Rattle.tree.specs.declared.search.Below.the-variants as below
-use Rattle.tree.specs.Pages.{canGive}
 use Rattle.tree.specs.Search.{belowOf}
 use Rattle.tree.proofs.Searching.{below-inside}
 use Rattle.tree.proofs.Moving.{moves-no-left, moves-no-right, moves-found}

@@ -7,12 +7,12 @@ use lib.ListN.{length, length-set}
 use borrow.Author.Needs.{needs}
 use borrow.Author.Tests.{not-true}
 use Rattle.model.specs.Layout.{headWords, firstWord, word}
-use Rattle.tree.specs.Pages.{Inside}
-use Rattle.tree.specs.Sits.{Sized}
+use Rattle.lend.specs.Pages.{Inside}
+use Rattle.lend.specs.Touches.{Sized}
 use Rattle.model.proofs.Lists.{all-at}
 use Rattle.model.proofs.Head.{head-facts}
-use Rattle.tree.proofs.Touching.{front-word}
-use Rattle.tree.proofs.Heads.{headed-sized}
+use Rattle.lend.proofs.Touching.{front-word}
+use Rattle.lend.proofs.Fitting.{headed-sized}
 use Rattle.tree.proofs.Removing.{levels-some, count-some, removes-none, removes-refused, removes-done}
 use Rattle.tree.proofs.remove.remove.Statement.{statement}
 use Rattle.tree.proofs.remove.remove.Tie as tie

@@ -6,8 +6,8 @@ use native.Mathlib.Omega.{arith}
 use lib.ListN.{length, drop, getD}
 use borrow.Author.Needs.{needs}
 use Rattle.model.specs.Layout.{firstWord}
+use Rattle.lend.specs.Pages.{most, Inside}
 use Rattle.tree.specs.declared.remove.Gone.{Gone}
-use Rattle.tree.specs.Pages.{most, Inside}
 use Rattle.tree.specs.Remove.{RemovesBelow}
 use Rattle.tree.proofs.Paths.{path-at}
 use Rattle.tree.proofs.Shrinking.{along-leaf, along-upper}

@@ -4,8 +4,8 @@ use Prim.Native.Nat.{_-_}
 use native.Mathlib.Omega.{arith}
 use borrow.Author.Needs.{needs}
 use Rattle.model.specs.Head.{levelsWord}
+use Rattle.lend.proofs.Fitting.{head-long, head-levels, head-root}
 use Rattle.tree.proofs.Seeking.{get-none, get-whole}
-use Rattle.tree.proofs.Heads.{head-long, head-levels, head-root}
 use Rattle.tree.proofs.search.get.Statement.{statement}
 use Rattle.tree.proofs.search.get.Tie as tie
 

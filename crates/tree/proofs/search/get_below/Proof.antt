@@ -4,10 +4,10 @@ use Prim.Native.Nat.{_+_, _-_}
 use native.Mathlib.Omega.{arith}
 use borrow.Author.Needs.{needs}
 use Rattle.model.specs.Tree.{Entry}
+use Rattle.lend.specs.Pages.{Inside}
 use Rattle.tree.specs.declared.search.Got.{Got}
-use Rattle.tree.specs.Pages.{Inside}
 use Rattle.tree.specs.Search.{GetsBelow}
-use Rattle.tree.proofs.Sitting.{page-inside}
+use Rattle.lend.proofs.Lent.{page-inside}
 use Rattle.tree.proofs.Searching.{here-few, below-inside, get-unsound, get-here, get-absent, get-lost, get-down}
 use Rattle.tree.proofs.search.get_below.Statement.{statement}
 use Rattle.tree.proofs.search.get_below.Tie as tie

@@ -2,8 +2,8 @@
 use mathlib.Core.Path.{refl, sym, _∙_}
 use native.Mathlib.Omega.{arith}
 use borrow.Author.Needs.{needs}
+use Rattle.lend.proofs.Fitting.{head-long, head-root}
 use Rattle.tree.proofs.Seeking.{seek-none, seek-whole}
-use Rattle.tree.proofs.Heads.{head-long, head-root}
 use Rattle.tree.proofs.search.seek.Statement.{statement}
 use Rattle.tree.proofs.search.seek.Tie as tie
 

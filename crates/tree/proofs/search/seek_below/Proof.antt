@@ -4,8 +4,8 @@ use Prim.Native.Nat.{_-_, _<_}
 use native.Mathlib.Omega.{arith}
 use lib.ListN.{length, length-set}
 use borrow.Author.Needs.{needs}
-use Rattle.tree.specs.Pages.{Inside}
-use Rattle.tree.proofs.Sitting.{page-inside}
+use Rattle.lend.specs.Pages.{Inside}
+use Rattle.lend.proofs.Lent.{page-inside}
 use Rattle.tree.proofs.Searching.{below-inside}
 use Rattle.tree.proofs.Seeking.{Rest, rest-unsound, rest-end, rest-lost, rest-down}
 use Rattle.tree.proofs.search.seek_below.Statement.{statement}

@@ -4,11 +4,11 @@ use Prim.Native.Nat.{ℕ, suc, _-_, _≤_, _<_}
 use native.Mathlib.Omega.{arith}
 use lib.ListN.{length, getD, drop, length-drop}
 use borrow.Author.Needs.{needs}
-use Rattle.model.specs.Entries.{forth}
 use Rattle.model.specs.Entries as model
-use Rattle.tree.specs.declared.steps.Step.{Step}
+use Rattle.model.specs.Entries.{forth}
+use Rattle.lend.specs.Pages.{most}
 use Rattle.tree.specs.declared.steps.Step.the-variants as step
-use Rattle.tree.specs.Pages.{most}
+use Rattle.tree.specs.declared.steps.Step.{Step}
 use Rattle.tree.specs.Steps.{Forth}
 use Rattle.tree.proofs.Paths.{fromBack, path-at, from-drop}
 use Rattle.tree.proofs.Stepping.{forward}

@@ -9,7 +9,7 @@ use borrow.Author.Tests.{not-true, not-false}
 use borrow.Rule.Slice.PartMut.{same-len-mid}
 use Rattle.model.specs.Page.{pageOf}
 use Rattle.page.specs.Page.{holdsAt}
-use Rattle.tree.specs.Pages.{most, Inside}
+use Rattle.lend.specs.Pages.{most, Inside}
 use Rattle.tree.specs.Steps.{Overs}
 use Rattle.page.proofs.Pages.{holds-facts}
 use Rattle.tree.proofs.Paths.{behind-even, behindBack, path-at}

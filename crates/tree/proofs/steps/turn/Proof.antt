@@ -2,7 +2,7 @@
 use mathlib.Core.Path.{sym, _∙_}
 use native.Mathlib.Omega.{arith}
 use borrow.Author.Needs.{needs}
-use Rattle.tree.proofs.Sitting.{page-inside}
+use Rattle.lend.proofs.Lent.{page-inside}
 use Rattle.tree.proofs.Searching.{below-inside}
 use Rattle.tree.proofs.Turning.{turn-leaf, turn-lost, turn-sought}
 use Rattle.tree.proofs.steps.turn.Statement.{statement}

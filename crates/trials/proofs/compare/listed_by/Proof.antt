@@ -2,7 +2,7 @@
 use native.Mathlib.Omega.{arith}
 use borrow.Author.Needs.{needs}
 use borrow.Author.Tests.{not-false}
-use Rattle.tree.proofs.Heads.{head-long}
+use Rattle.lend.proofs.Fitting.{head-long}
 use Rattle.trials.proofs.compare.listed_by.Statement.{statement}
 use Rattle.trials.proofs.compare.listed_by.Tie as tie
 

@@ -1,12 +1,11 @@
--- `table::place_before` stays inside the table and ends, at `place` or before. Assumes nothing.
-use Prim.Native.Nat.{_-_, _≤_}
-use lib.ListN.{length}
+-- `table::place_before` ends, at `place` or before. Assumes nothing.
+use Prim.Native.Nat.{_≤_}
 use borrow.Author.Needs.{needs}
 use Rattle.trials.proofs.table.place_before.Statement.{statement}
 use Rattle.trials.proofs.table.place_before.Tie as tie
 
 abbrev Inv-loop : tie.InvT-loop
-Inv-loop table place i₀ i = (i ≤ place) × (place ≤ length table)
+Inv-loop table place i₀ i = i ≤ place
 
 abbrev μ-loop : tie.MeasureT-loop
 μ-loop table place i₀ i = i
@@ -14,14 +13,11 @@ abbrev μ-loop : tie.MeasureT-loop
 loop-holds : tie.Need-loop-holds Inv-loop μ-loop
 loop-holds c = search needs
 
-sub-if1 : tie.Need-sub-if1 Inv-loop μ-loop
-sub-if1 c = search needs
+sub-value-at : tie.Need-sub-value-at Inv-loop μ-loop
+sub-value-at c = search needs
 
-mul-if1 : tie.Need-mul-if1 Inv-loop μ-loop
-mul-if1 c = search needs
-
-shared-slice-read-if1 : tie.Need-shared-slice-read-if1 Inv-loop μ-loop
-shared-slice-read-if1 c = search needs
+value-at-requires : tie.Need-value-at-requires Inv-loop μ-loop
+value-at-requires c κs = search needs
 
 returns : tie.Need-returns Inv-loop μ-loop
 returns c = search needs
@@ -45,9 +41,8 @@ place-before-spec =
     Inv-loop
     μ-loop
     loop-holds
-    sub-if1
-    mul-if1
-    shared-slice-read-if1
+    sub-value-at
+    value-at-requires
     returns
     sub-i
     loop-less

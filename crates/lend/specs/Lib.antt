@@ -1,0 +1,3 @@
+-- What the promises of the parts lent are said with.
+pub mod Pages
+pub mod Touches

@@ -1,0 +1,72 @@
+-- `pool::clear` meets its contract: each refusal by the tests that led there, and else the pool that is laid, of the kind that it had. Assumes nothing.
+use mathlib.Core.Path.{_≡_, sym, _∙_}
+use mathlib.Core.Bool.{true, false}
+use native.Mathlib.Omega.{arith}
+use borrow.Author.Needs.{needs}
+use borrow.Author.Tests.{not-true, not-false, eq-eqb, ne-eqb}
+use Rattle.model.specs.Head.{headed, kindWord}
+use Rattle.model.specs.PoolCalls.{clearTests}
+use Rattle.model.proofs.Head.{head-facts}
+use Rattle.lend.proofs.Fitting.{head-long}
+use Rattle.lend.proofs.Fitting.{headed-allowed}
+use Rattle.map.proofs.Making.{makes-refused, makes-done}
+use Rattle.map.proofs.pool.clear.Statement.{statement}
+use Rattle.map.proofs.pool.clear.Tie as tie
+
+fits-requires : tie.Need-fits-requires
+fits-requires c κs = search needs
+
+same-length : tie.Need-same-length
+same-length c = search needs
+
+returns : tie.Need-returns
+returns c =
+    let w = c .before .before .before .before .args .pool .now in
+    let no-head : headed w ≡ false = sym (c .before .fits2 .ensures) ∙ not-true _ (c .if1 .taken) in
+    makes-refused (clearTests w) (kindWord w) w 1 (rw no-head) (omega arith)
+
+-- past the head
+fitting : (c : tie.Else1) → headed (c .before .before .before .before .args .pool .now) ≡ true
+fitting c = sym (c .before .fits2 .ensures) ∙ not-false _ (c .if1 .left)
+
+slice-read-if2 : tie.Need-slice-read-if2
+slice-read-if2 c = let long = head-long _ (fitting (c .before)) in omega arith
+
+same-length-2 : tie.Need-same-length-2
+same-length-2 c = search needs
+
+returns-2 : tie.Need-returns-2
+returns-2 c =
+    let w = c .before .before .before .before .before .before .args .pool .now in
+    makes-refused (clearTests w) (kindWord w) w 4 (rw (fitting (c .before .before), eq-eqb _ _ (c .if2 .taken))) (omega arith)
+
+slice-read-kind : tie.Need-slice-read-kind
+slice-read-kind c = let long = head-long _ (fitting (c .before .before .before)) in omega arith
+
+lay-requires : tie.Need-lay-requires
+lay-requires c κs = let e = fitting (c .before .before .before .before) in (headed-allowed _ e, head-facts _ e .kind)
+
+same-length-3 : tie.Need-same-length-3
+same-length-3 c = search needs
+
+returns-3 : tie.Need-returns-3
+returns-3 c =
+    let past = c .before .before .before .before .before in
+    let w = past .before .before .before .before .before .before .args .pool .now in
+    let e = fitting (past .before .before) in
+    makes-done (clearTests w) (kindWord w) w _ (rw (e, ne-eqb _ _ (past .if2 .left))) (headed-allowed w e) (head-facts w e .kind) (c .before .before .lay .ensures)
+
+pub clear-spec : {M : Type 1} → statement M
+clear-spec =
+    tie.close
+    (tie.spec
+    fits-requires
+    same-length
+    returns
+    slice-read-if2
+    same-length-2
+    returns-2
+    slice-read-kind
+    lay-requires
+    same-length-3
+    returns-3)

@@ -1,0 +1,287 @@
+// Fixed corners, a line each: calls by document 01's numbers, 0 where a call is not refused; whether a refusal has changed a word; the last key, one entry, a full pool, and make
+// during an open cursor.
+use crate::numbers;
+use crate::table::UNTOUCHED;
+use crate::table::put;
+use crate::table::value_at;
+use crate::tally::say;
+use libc::STDOUT_FILENO;
+use map::Got;
+use map::list::Listed;
+use map::pool::Checked;
+use map::refusal::MAP;
+use map::refusal::SET;
+use model::COUNT;
+use model::FIRST_PAGE;
+use model::LEVELS;
+use model::OPEN;
+
+// Words of a pool of one page, and of one of two.
+const ONE: usize = 128;
+
+const TWO: usize = 160;
+
+const LAST_KEY: u64 = 18446744073709551615;
+
+fn write(text: &[u8]) {
+    io::write_all(STDOUT_FILENO, text);
+}
+
+fn number(n: u64) {
+    say(b" ", n);
+}
+
+// How many words of a pool are not as they were before.
+fn changed(before: &[u64], pool: &[u64]) -> u64 {
+    let mut n: u64 = 0;
+    let mut i: usize = 0;
+    while i < pool.len() {
+        if value_at(before, i) != pool[i] {
+            n = std::num::wrapping_add_u64(n, 1);
+        }
+        i += 1;
+    }
+    n
+}
+
+// The map's calls, in document 01's order.
+fn map_calls(pool: &mut [u64]) {
+    write(b" map calls");
+    number(numbers::insert(pool, 7, 5));
+    number(numbers::get(pool, 7));
+    number(numbers::contains(pool, 7));
+    number(numbers::replace(pool, 7, 6));
+    number(numbers::remove(pool, 7));
+    number(numbers::entries(pool, 0, 1));
+    number(numbers::keys(pool, 1, 2));
+    number(numbers::values(pool, 2, 0));
+}
+
+// The set's calls, in document 01's order.
+fn set_calls(pool: &mut [u64]) {
+    write(b" set calls");
+    number(numbers::set_insert(pool, 7));
+    number(numbers::set_get(pool, 7));
+    number(numbers::set_contains(pool, 7));
+    number(numbers::set_remove(pool, 7));
+    number(numbers::set_list(pool, 2, 0));
+}
+
+fn sound(pool: &[u64]) {
+    match map::pool::check(pool) {
+        Checked::Sound => write(b" sound"),
+        Checked::Unsound => write(b" unsound"),
+    }
+}
+
+// Make in so many words.
+fn make_in(words: &mut [u64], n: usize) {
+    if n <= words.len() {
+        number(numbers::make(&mut words[0..n], MAP));
+    }
+}
+
+fn lengths() {
+    let mut words = [UNTOUCHED; TWO];
+    write(b"make in 0, 96, 127, 129, 128 words:");
+    make_in(&mut words, 0);
+    make_in(&mut words, 96);
+    make_in(&mut words, 127);
+    make_in(&mut words, 129);
+    let fresh = [UNTOUCHED; TWO];
+    say(b" changed ", changed(&fresh, &words));
+    make_in(&mut words, ONE);
+    write(b"\nmake of kind 2:");
+    number(numbers::make(&mut words, 2));
+    write(b"\n");
+}
+
+// The calls on a pool that is just made: its own kind's, and then the other's.
+fn kinds() {
+    let mut pool = [UNTOUCHED; ONE];
+    write(b"on a map:");
+    number(numbers::make(&mut pool, MAP));
+    map_calls(&mut pool);
+    let before = pool;
+    set_calls(&mut pool);
+    say(b" changed ", changed(&before, &pool));
+    write(b"\non a set:");
+    number(numbers::make(&mut pool, SET));
+    set_calls(&mut pool);
+    let kept = pool;
+    map_calls(&mut pool);
+    say(b" changed ", changed(&kept, &pool));
+    write(b"\n");
+}
+
+// A bound of kind 3, at either end and at both.
+fn bounds() {
+    let mut pool = [UNTOUCHED; ONE];
+    write(b"bound of kind 3:");
+    numbers::make(&mut pool, MAP);
+    number(numbers::entries(&pool, 3, 2));
+    number(numbers::keys(&pool, 2, 3));
+    number(numbers::values(&pool, 3, 3));
+    numbers::make(&mut pool, SET);
+    number(numbers::set_list(&pool, 3, 0));
+    number(numbers::set_list(&pool, 0, LAST_KEY));
+    write(b"\n");
+}
+
+// A map of one entry, with one word of another number.
+fn spoil(pool: &mut [u64], word: usize, by: u64) {
+    numbers::make(pool, MAP);
+    numbers::insert(pool, 7, 5);
+    put(pool, word, by);
+}
+
+fn copy_out(pool: &[u64]) {
+    let mut other = [0u64; ONE];
+    say(b" copy out ", numbers::copy(pool, &mut other));
+    say(b" open ", value_at(&other, OPEN));
+    sound(&other);
+}
+
+fn copy_in(pool: &mut [u64]) {
+    let mut other = [UNTOUCHED; ONE];
+    numbers::make(&mut other, MAP);
+    say(b" copy in ", numbers::copy(&other, pool));
+}
+
+fn emptied(pool: &mut [u64]) {
+    say(b" clear ", numbers::clear(pool));
+    say(b" make ", numbers::make(pool, MAP));
+    say(b" open ", value_at(pool, OPEN));
+    sound(pool);
+}
+
+// Every call on such a map.
+fn spoiled(text: &[u8], word: usize, by: u64) {
+    let mut pool = [UNTOUCHED; ONE];
+    spoil(&mut pool, word, by);
+    let mut twin = pool;
+    write(text);
+    map_calls(&mut pool);
+    set_calls(&mut pool);
+    say(b" count ", numbers::count(&pool));
+    say(b" empty ", numbers::is_empty(&pool));
+    say(b" changed ", changed(&twin, &pool));
+    sound(&pool);
+    copy_out(&pool);
+    copy_in(&mut pool);
+    emptied(&mut twin);
+    write(b"\n");
+}
+
+// Copies between lengths: to another, from words that are no pool, to words that can be none.
+fn copies() {
+    let mut pool = [UNTOUCHED; ONE];
+    let mut long = [UNTOUCHED; TWO];
+    let mut short = [UNTOUCHED; FIRST_PAGE];
+    write(b"copies:");
+    number(numbers::copy(&pool, &mut long));
+    numbers::make(&mut pool, MAP);
+    number(numbers::copy(&pool, &mut long));
+    number(numbers::copy(&pool, &mut short));
+    numbers::make(&mut long, MAP);
+    let before = pool;
+    number(numbers::copy(&long, &mut pool));
+    say(b" changed ", changed(&before, &pool));
+    write(b"\n");
+}
+
+// Three keys in one order or another.
+fn three(pool: &mut [u64], a: u64, b: u64, c: u64) {
+    number(numbers::insert(pool, a, a));
+    number(numbers::insert(pool, b, b));
+    number(numbers::insert(pool, c, c));
+}
+
+// Keys 1 to 9, and then another: as many as a pool of one page or two takes, and one more.
+fn ten(pool: &mut [u64]) {
+    three(pool, 1, 4, 7);
+    three(pool, 9, 6, 3);
+    three(pool, 5, 2, 8);
+    number(numbers::insert(pool, 10, 10));
+}
+
+// A full pool refuses a new key and takes another value for a key that it has.
+fn full(pool: &mut [u64]) {
+    write(b"full:");
+    numbers::make(pool, MAP);
+    ten(pool);
+    number(numbers::insert(pool, 0, 1));
+    number(numbers::insert(pool, 9, 90));
+    number(numbers::replace(pool, 1, 10));
+    say(b" entries ", value_at(pool, COUNT));
+    got(pool, 9);
+    got(pool, 10);
+    sound(pool);
+    write(b"\n");
+}
+
+fn full_pools() {
+    let mut one = [UNTOUCHED; ONE];
+    let mut two = [UNTOUCHED; TWO];
+    full(&mut one);
+    full(&mut two);
+}
+
+// What get answers.
+fn got(pool: &[u64], key: u64) {
+    match map::get(pool, key) {
+        Got::Value(value, read) => {
+            say(b" value ", value);
+            say(b" in pages ", read as u64);
+        }
+        Got::Absent(read) => say(b" absent in pages ", read as u64),
+        Got::Refused(_) => write(b" refused"),
+    }
+}
+
+// The key and value that a list of one has.
+fn only(pool: &[u64], lower: u64, upper: u64, key: u64) {
+    let mut keys = [UNTOUCHED; 2];
+    let mut values = [UNTOUCHED; 2];
+    match map::list::entries(pool, lower, key, upper, key, &mut keys, &mut values) {
+        Listed::Wrote(n) => {
+            say(b", list of ", n as u64);
+            say(b": ", keys[0]);
+            say(b" ", values[0]);
+            say(b", then ", keys[1]);
+        }
+        Listed::Refused(_) => write(b" refused"),
+    }
+}
+
+// One entry, of the last key that there is.
+fn last_key() {
+    let mut pool = [UNTOUCHED; ONE];
+    numbers::make(&mut pool, MAP);
+    write(b"last key, absent:");
+    got(&pool, LAST_KEY);
+    only(&pool, 2, 2, 0);
+    numbers::insert(&mut pool, LAST_KEY, 5);
+    write(b"\nlast key, alone:");
+    got(&pool, LAST_KEY);
+    only(&pool, 0, 0, LAST_KEY);
+    only(&pool, 1, 2, LAST_KEY);
+    only(&pool, 2, 1, LAST_KEY);
+    say(b", levels ", value_at(&pool, LEVELS));
+    numbers::remove(&mut pool, LAST_KEY);
+    say(b", removed ", value_at(&pool, LEVELS));
+    sound(&pool);
+    write(b"\n");
+}
+
+pub fn corners() {
+    lengths();
+    kinds();
+    bounds();
+    spoiled(b"no head:", 0, 2);
+    spoiled(b"cursor open:", OPEN, 1);
+    spoiled(b"root of ten:", FIRST_PAGE, 10);
+    copies();
+    full_pools();
+    last_key();
+}
