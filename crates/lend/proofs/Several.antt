@@ -15,10 +15,10 @@ use Rattle.model.specs.Tree.{Entry, Node, noEntry}
 use Rattle.model.specs.Page.{pageOf, countOf, heightOf, entryIn, childIn, entriesOf, childrenOf, Holds}
 use Rattle.model.specs.Insert.{cutRight}
 use Rattle.model.specs.Mend.{glue}
-use Rattle.page.specs.declared.Change.the-variants as change
 use Rattle.page.specs.declared.Change.{Change}
-use Rattle.page.specs.declared.Parting.the-variants as parting
+use Rattle.page.specs.declared.Change.the-variants as change
 use Rattle.page.specs.declared.Parting.{Parting}
+use Rattle.page.specs.declared.Parting.the-variants as parting
 use Rattle.page.specs.Node.{more, wider, less, instead}
 use Rattle.page.specs.Page.{roomAt, holdsAt, fullAt}
 use Rattle.lend.specs.Pages.{most, keeps, OnlyPages, nodeIn, Becomes, ChangesIn, KeepsIn, canSplit, SplitsIn, areApart, canPass, PassesIn, MovesIn, canJoin, JoinsIn}

@@ -2,8 +2,8 @@
 -- Assumes nothing.
 use Prim.Native.Nat.{_≤_}
 use native.Mathlib.Omega.{arith}
-use Rattle.map.specs.declared.refusal.Refusal.the-variants as reason
 use Rattle.map.specs.declared.refusal.Refusal.{Refusal}
+use Rattle.map.specs.declared.refusal.Refusal.the-variants as reason
 use Rattle.map.specs.Answers.{numberOf}
 
 pub number-some : (n : Refusal) → 1 ≤ numberOf n

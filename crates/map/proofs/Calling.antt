@@ -3,7 +3,7 @@
 -- Assumes nothing.
 use mathlib.Core.Path.{_≡_, refl, sym, ap, ap₂, subst, _∙_}
 use mathlib.Core.Bool.{Bool, true, false, not, cond}
-use mathlib.Core.Logic.{_⊎_, inl, inr, _≢_}
+use mathlib.Core.Logic.{inr, _≢_}
 use mathlib.Core.Option.{Option, none, some}
 use mathlib.Core.List.{List, [], _∷_}
 use Prim.Native.Nat.{ℕ, zero, suc, _+_, _<_}
@@ -19,78 +19,41 @@ use Rattle.model.specs.Write.{write}
 use Rattle.model.specs.Pool.{Pool, heldBy, poolOf, wholeOf, withWhole}
 use Rattle.model.specs.Sound.{Sound}
 use Rattle.model.specs.Written.{Written}
-use Rattle.model.specs.Refusal.{Test, _when_, refusal, names, mapKind, setKind}
+use Rattle.model.specs.Refusal.{Test, _when_, refusal, mapKind, setKind}
 use Rattle.model.specs.Call.{Call, Outcome, refused, answered, given, number, Meets}
 use Rattle.model.specs.PoolCalls.{reads}
 use Rattle.model.specs.MapCalls.{readTests, changeTests, file, noRoom, strike, pagesRead, Seen, mapInsert, mapGet, mapContains, mapReplace}
 use Rattle.model.specs.SetCalls.{setInsert, setGet, setContains}
 use Rattle.model.specs.Source.{view, member}
-use Rattle.tree.specs.declared.search.Got.the-variants as got
 use Rattle.tree.specs.declared.search.Got.{Got}
+use Rattle.tree.specs.declared.search.Got.the-variants as got
 use Rattle.tree.specs.Search.{gotBy, Gets}
 use Rattle.tree.specs.Write.{Writes}
-use Rattle.map.specs.declared.entry.Added.the-variants as added
 use Rattle.map.specs.declared.entry.Added.{Added}
-use Rattle.map.specs.declared.entry.Sought.the-variants as sought
+use Rattle.map.specs.declared.entry.Added.the-variants as added
 use Rattle.map.specs.declared.entry.Sought.{Sought}
-use Rattle.map.specs.declared.entry.Struck.the-variants as struck
+use Rattle.map.specs.declared.entry.Sought.the-variants as sought
 use Rattle.map.specs.declared.entry.Struck.{Struck}
+use Rattle.map.specs.declared.entry.Struck.the-variants as struck
 use Rattle.map.specs.declared.refusal.Refusal.{Refusal}
 use Rattle.map.specs.Answers.{numberOf}
 use Rattle.map.specs.Entry.{gapFor, spotFor, StandsAt, Finds, Adds, Strikes}
-use Rattle.model.proofs.Cases.{contrary}
+use Rattle.model.proofs.Cases.{contrary, never}
 use Rattle.model.proofs.Lists.{all-at}
 use Rattle.model.proofs.Entries.{has-key, has-lookup, lookup-at, there}
 use Rattle.model.proofs.Write.{write-same}
 use Rattle.model.proofs.Right.{sound-right}
 use Rattle.model.proofs.Keeps.{Keeps, keeps-reads, keeps-map-insert, keeps-map-replace, keeps-set-insert}
 use Rattle.model.proofs.Written.{sound-written}
-use Rattle.model.proofs.Meets.{Staged, meets-early, meets-late, passes-changing}
+use Rattle.model.proofs.Meets.{Staged, meets-early, meets-answered, meets-stopped, meets-unsound, passes-changing}
 use Rattle.map.proofs.Answers.{number-some}
-use Rattle.map.proofs.Placing.{never, absent-value}
+use Rattle.map.proofs.Placing.{absent-value}
 
 -- ---- how an arm of a call ends
 
 -- the first tests refuse
 pub meets-refused : {A : Type 0} (c : Call A) (w : List ℕ) (n : Refusal) → Staged c → numberOf n ≡ refusal (c .early w) → Meets c w w (refused (numberOf n))
 meets-refused c w n staged e = meets-early c staged w (numberOf n) (sym e) (number-some n)
-
--- what an answer asks of a sound pool
-record Ends {A : Type 0} (c : Call A) (w v : List ℕ) (a : A) : Type 0 where
-  passes : refusal (c .late (poolOf w)) ≡ 0
-  answers : a ≡ c .answer (poolOf w)
-  holds : Written v (c .after (poolOf w))
-  still : c .still (poolOf w) ≡ true → v ≡ w
-
-module _ {A : Type 0} {c : Call A} {w v : List ℕ} (staged : Staged c) (keeps : Keeps c) (pass : 0 ≡ refusal (c .early w)) where
-  meets-answered : {a : A} → length v ≡ length w → (Sound w → Ends c w v a) → Meets c w v (answered a)
-  meets-answered {a} long ends =
-      meets-late c staged w v (answered a) keeps (sym pass)
-      (record {
-        long = long;
-        late = λ n e. never (cc);
-        kept = λ n e. never (cc);
-        exact = λ s. ap₂ given (sym (ends s .passes)) (ends s .answers);
-        holds = λ s z. ends s .holds;
-        still = λ s. ends s .still;
-      })
-
-  meets-stopped : (n : ℕ) → v ≡ w → (suc n ≡ 9) ⊎ (names (suc n) (c .late (poolOf w)) ≡ true) → (Sound w → refusal (c .late (poolOf w)) ≡ suc n)
-      → Meets c w v (refused (suc n))
-  meets-stopped n kept late exact =
-      meets-late c staged w v (refused (suc n)) keeps (sym pass)
-      (record {
-        long = ap length kept;
-        late = λ m e. subst (λ (i : ℕ). (i ≡ 9) ⊎ (names i (c .late (poolOf w)) ≡ true)) (cc) late;
-        kept = λ m e. kept;
-        exact = λ s. ap (λ (i : ℕ). given i (c .answer (poolOf w))) (sym (exact s));
-        holds = λ s z. absurd (omega (arith, exact s));
-        still = λ s z. kept;
-      })
-
-  -- never on a sound pool
-  pub meets-unsound : (v ≡ w) × (Sound w → ⊥) → Meets c w v (refused 9)
-  meets-unsound told = meets-stopped 8 (told .0) (inl refl) (λ s. absurd (told .1 s))
 
 -- ---- a key of a sound pool
 

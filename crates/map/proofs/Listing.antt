@@ -14,15 +14,15 @@ use lib.Seq.{take-nil, take-suc, length-take-le, getD-drop}
 use Rattle.model.specs.Tree.{Entry, noEntry, entries, size}
 use Rattle.model.specs.Entries.{gapOf, next, forth}
 use Rattle.tree.specs.declared.search.Aim.{Aim}
-use Rattle.tree.specs.declared.steps.Step.the-variants as step
 use Rattle.tree.specs.declared.steps.Step.{Step}
-use Rattle.tree.specs.Sits.{PathIn, PathOf, Along}
+use Rattle.tree.specs.declared.steps.Step.the-variants as step
+use Rattle.tree.specs.Sits.{PathIn, PathOf, OnPath}
 use Rattle.tree.specs.Search.{aimed}
 use Rattle.tree.specs.Steps.{stepBy, Forth}
-use Rattle.map.specs.declared.list.Listed.the-variants as listed
 use Rattle.map.specs.declared.list.Listed.{Listed}
+use Rattle.map.specs.declared.list.Listed.the-variants as listed
 use Rattle.map.specs.List.{laid, front, Stops, Holds, Runs}
-use Rattle.model.proofs.Cases.{either-lt}
+use Rattle.model.proofs.Cases.{either-lt, never}
 use Rattle.model.proofs.Lists.{next-some, next-none}
 use Rattle.model.proofs.Entries.{keyAt, gap-le, gap-more, gap-ends}
 
@@ -97,8 +97,7 @@ module _ (es : List Entry) (g i : ℕ) where
       record { there = simp length-drop (omega arith); key = cc; value = cc })
       (λ l.
       let end : step.Entry k v ≡ step.End = e ∙ ap stepBy (next-none es (g + i) l) in
-      let z : _≡_ {A = ℕ} 0 1 = cc in
-      absurd (omega arith))
+      never (cc))
 
   -- and it goes over that
   step-forth : i < length (drop g es) → forth (next (g + i) es) (g + i) ≡ g + (i + 1)
@@ -121,8 +120,8 @@ pub record Ran (w : List ℕ) (upper : Aim) (ps₀ ss₀ : List ℕ) (n : ℕ) (
   pub keys : length ks ≡ length ks₀
   pub values : length vs ≡ length vs₀
   pub none : i ≡ 0 → (ks ≡ ks₀) × (vs ≡ vs₀)
-  pub path : Along w ps₀ ss₀ (λ h t g. PathOf h t (g + i) ps ss)
-  pub filled : Along w ps₀ ss₀ (λ h t g. Filled (aimed upper) (drop g (entries h t)) ks₀ vs₀ i ks vs)
+  pub path : OnPath w ps₀ ss₀ (λ h t g. PathOf h t (g + i) ps ss)
+  pub filled : OnPath w ps₀ ss₀ (λ h t g. Filled (aimed upper) (drop g (entries h t)) ks₀ vs₀ i ks vs)
 
 pub ran-none : {w : List ℕ} {ps ss : List ℕ} (upper : Aim) (n : ℕ) (ks vs : List ℕ) → PathIn w ps ss → Ran w upper ps ss n ks vs ps ss ks vs 0
 ran-none upper n ks vs inside = record {
@@ -139,15 +138,15 @@ ran-none upper n ks vs inside = record {
 
 module _ {w : List ℕ} {upper : Aim} {ps₀ ss₀ : List ℕ} {n : ℕ} {ks₀ vs₀ ps ss ks vs : List ℕ} {i : ℕ} (ran : Ran w upper ps₀ ss₀ n ks₀ vs₀ ps ss ks vs i) where
   -- the gap that it has come to
-  gap-in : Along w ps₀ ss₀ (λ h t g. g + i ≤ size h t)
+  gap-in : OnPath w ps₀ ss₀ (λ h t g. g + i ≤ size h t)
   gap-in low h t g s r b p =
       omega (arith, ran .filled low h t g s r b p .few, gap-le (aimed upper) (drop g (entries h t)), length-drop g (entries h t))
 
   -- all that were asked for, or that there are
-  ran-wrote : Along w ps₀ ss₀ (λ h t g. min n (gapOf (aimed upper) (drop g (entries h t))) ≡ i) → Runs w upper ps₀ ss₀ n ks₀ vs₀ ks vs (listed.Wrote i)
+  ran-wrote : OnPath w ps₀ ss₀ (λ h t g. min n (gapOf (aimed upper) (drop g (entries h t))) ≡ i) → Runs w upper ps₀ ss₀ n ks₀ vs₀ ks vs (listed.Wrote i)
   ran-wrote all = record {
-    tells = record { keys = ran .keys; values = ran .values; kept = λ e z. let o : _≡_ {A = ℕ} 0 1 = cc in absurd (omega arith) };
-    late = λ e z. let o : _≡_ {A = ℕ} 0 1 = cc in absurd (omega arith);
+    tells = record { keys = ran .keys; values = ran .values; kept = λ e z. never (cc) };
+    late = λ e z. never (cc);
     exact = λ low h t g s r b p. filled-holds (drop g (entries h t)) ks₀ vs₀ upper n (ran .filled low h t g s r b p) (all low h t g s r b p);
   }
 
@@ -158,10 +157,10 @@ module _ {w : List ℕ} {upper : Aim} {ps₀ ss₀ : List ℕ} {n : ℕ} {ks₀ 
       (ran-wrote (λ low h t g s r b p. omega (arith, ran .filled low h t g s r b p .few)))
 
   module _ {ps′ ss′ : List ℕ} {q : Step} (f : Forth w ps ss ps′ ss′ q) where
-    answer-is : Along w ps₀ ss₀ (λ h t g. q ≡ stepBy (next (g + i) (entries h t)))
+    answer-is : OnPath w ps₀ ss₀ (λ h t g. q ≡ stepBy (next (g + i) (entries h t)))
     answer-is low h t g s r b p = f .exact low h t (g + i) s r (gap-in low h t g s r b p) (ran .path low h t g s r b p)
 
-    entry-at : {k v : ℕ} → q ≡ step.Entry k v → Along w ps₀ ss₀ (λ h t g. Stood (drop g (entries h t)) i k v)
+    entry-at : {k v : ℕ} → q ≡ step.Entry k v → OnPath w ps₀ ss₀ (λ h t g. Stood (drop g (entries h t)) i k v)
     entry-at {k} {v} e low h t g s r b p = step-entry (entries h t) g i k v (sym e ∙ answer-is low h t g s r b p)
 
     -- one more

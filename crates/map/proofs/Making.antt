@@ -18,6 +18,7 @@ use Rattle.model.specs.Written.{Written}
 use Rattle.model.specs.Refusal.{Test, refusal}
 use Rattle.model.specs.Call.{refused, answered}
 use Rattle.model.specs.PoolCalls.{Makes, Copies, copyTests, copied}
+use Rattle.model.proofs.Cases.{never}
 use Rattle.model.proofs.PageMap.{bit-zero}
 use Rattle.model.proofs.Right.{right-made}
 use Rattle.model.proofs.Written.{written-sound, written-pool}
@@ -86,7 +87,7 @@ lay-written w ys P kind sized e pages =
 
 -- a refusal is no answer
 no-answer : {A C : Type 0} (n : ℕ) (a : A) → refused n ≡ answered a → C
-no-answer n a e = let z : _≡_ {A = ℕ} 0 1 = cc in absurd (omega arith)
+no-answer n a e = never (cc)
 
 module _ (tests : List Test) (kind : ℕ) (w : List ℕ) where
   pub makes-refused : (n : ℕ) → refusal tests ≡ n → 1 ≤ n → Makes tests kind w w (refused n)

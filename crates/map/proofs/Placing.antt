@@ -17,34 +17,30 @@ use Rattle.model.specs.Page.{pageOf, entryIn}
 use Rattle.model.specs.Pool.{heldBy, poolOf}
 use Rattle.model.specs.Sound.{Sound}
 use Rattle.model.specs.Source.{view, member}
-use Rattle.page.specs.declared.Change.the-variants as change
 use Rattle.page.specs.declared.Change.{Change}
+use Rattle.page.specs.declared.Change.the-variants as change
 use Rattle.lend.specs.Pages.{most}
-use Rattle.tree.specs.declared.insert.Inserted.the-variants as inserted
 use Rattle.tree.specs.declared.insert.Inserted.{Inserted}
+use Rattle.tree.specs.declared.insert.Inserted.the-variants as inserted
 use Rattle.tree.specs.declared.search.Aim.the-variants.{Before}
-use Rattle.tree.specs.declared.steps.Spot.the-variants as spot
 use Rattle.tree.specs.declared.steps.Spot.{Spot}
+use Rattle.tree.specs.declared.steps.Spot.the-variants as spot
 use Rattle.tree.specs.Search as search
 use Rattle.tree.specs.Steps.{SpotAfter}
 use Rattle.tree.specs.Insert.{Inserts, insertedBy}
 use Rattle.tree.specs.Remove.{Removes}
 use Rattle.map.specs.declared.entry.Added.the-variants as added
-use Rattle.map.specs.declared.entry.Sought.the-variants as sought
 use Rattle.map.specs.declared.entry.Sought.{Sought}
+use Rattle.map.specs.declared.entry.Sought.the-variants as sought
 use Rattle.map.specs.declared.entry.Struck.the-variants as struck
 use Rattle.map.specs.Entry.{gapFor, fullFor, spotFor, Finds, Seeks, Adds, Strikes}
-use Rattle.model.proofs.Cases.{either, either-lt}
+use Rattle.model.proofs.Cases.{either, either-lt, never}
 use Rattle.model.proofs.Entries.{gap-le, has-at, has-key, lookup-at}
 use Rattle.model.proofs.Right.{Right, sound-right}
 use Rattle.model.proofs.Written.{sound-written}
 use Rattle.tree.proofs.Sitting.{sound-sits}
 use Rattle.tree.proofs.Writing.{spot-entry}
 use Rattle.tree.proofs.Spots.{spot-some, spot-end}
-
--- one answer is not another
-pub never : {C : Type 0} → _≡_ {A = ℕ} 0 1 → C
-never e = absurd (omega arith)
 
 -- ---- what is read there
 

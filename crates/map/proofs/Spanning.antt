@@ -22,16 +22,16 @@ use Rattle.model.specs.MapCalls.{readTests}
 use Rattle.model.specs.ListCalls.{Column, keyColumn, valueColumn, Lists, listTests, shortest, written}
 use Rattle.tree.specs.declared.search.Aim.{Aim}
 use Rattle.tree.specs.Search.{aimed, Seeks}
-use Rattle.map.specs.declared.bound.Bound.the-variants as bound
 use Rattle.map.specs.declared.bound.Bound.{Bound as CodeBound}
-use Rattle.map.specs.declared.list.Listed.the-variants as listed
+use Rattle.map.specs.declared.bound.Bound.the-variants as bound
 use Rattle.map.specs.declared.list.Listed.{Listed}
-use Rattle.map.specs.declared.refusal.Refusal.the-variants as reason
+use Rattle.map.specs.declared.list.Listed.the-variants as listed
 use Rattle.map.specs.declared.refusal.Refusal.{Refusal}
+use Rattle.map.specs.declared.refusal.Refusal.the-variants as reason
 use Rattle.map.specs.Answers.{numberOf, listedOf}
 use Rattle.map.specs.Bound.{lowerAim, upperAim}
 use Rattle.map.specs.List.{laid, Tells, front, Runs, Spans, Fills}
-use Rattle.model.proofs.Cases.{either, contrary}
+use Rattle.model.proofs.Cases.{either, contrary, never}
 use Rattle.model.proofs.Lists.{all-map, take-min}
 use Rattle.model.proofs.Entries.{falls-upper, gap-le, gap-slice, inside-slice}
 use Rattle.tree.proofs.Sitting.{sound-sits}
@@ -84,7 +84,7 @@ module _ {w : List ℕ} {lower upper : Aim} {ps ss ps′ ss′ : List ℕ} {n : 
 
 -- a refusal's number is given for that refusal
 listed-refused : {C : Type 0} (r : Listed) (m : ℕ) → listedOf r ≡ refused m → ((e : Refusal) → r ≡ listed.Refused e → numberOf e ≡ m → C) → C
-listed-refused (listed.Wrote n) m q then = absurd (let z : _≡_ {A = ℕ} 0 1 = cc in omega arith)
+listed-refused (listed.Wrote n) m q then = never (cc)
 listed-refused (listed.Refused e) m q then = then e refl (cc)
 
 module _ {tests : List Test} {low high : Bound} {w : List ℕ} {n : ℕ} {ks vs : List ℕ} where
@@ -144,7 +144,7 @@ module _ (kind : ℕ) (aim : Aim) {r : CodeBound} (said : r ≡ cond (noBound ki
   bound-known is = go (noBound kind) (sym said ∙ is)
     where
       go : (b : Bool) {a : Aim} → cond b bound.Unknown (bound.At aim) ≡ bound.At a → (b ≡ false) × (aim ≡ a)
-      go true e = absurd (let z : _≡_ {A = ℕ} 0 1 = cc in omega arith)
+      go true e = never (cc)
       go false e = (refl, cc)
 
   pub bound-unknown : r ≡ bound.Unknown → noBound kind ≡ true
@@ -152,7 +152,7 @@ module _ (kind : ℕ) (aim : Aim) {r : CodeBound} (said : r ≡ cond (noBound ki
     where
       go : (b : Bool) → cond b bound.Unknown (bound.At aim) ≡ bound.Unknown → b ≡ true
       go true e = refl
-      go false e = absurd (let z : _≡_ {A = ℕ} 0 1 = cc in omega arith)
+      go false e = never (cc)
 
 -- ---- what is laid over the slices is what a list writes
 

@@ -6,36 +6,36 @@ use Prim.Native.Nat.{ℕ}
 use Rattle.model.specs.Gap.{Found}
 use Rattle.model.specs.Call.{Outcome, refused, answered}
 use Rattle.model.specs.MapCalls.{Seen}
-use Rattle.map.specs.declared.Contained.the-variants as contained
 use Rattle.map.specs.declared.Contained.{Contained}
-use Rattle.map.specs.declared.Got.the-variants as got
+use Rattle.map.specs.declared.Contained.the-variants as contained
 use Rattle.map.specs.declared.Got.{Got}
-use Rattle.map.specs.declared.Inserted.the-variants as inserted
+use Rattle.map.specs.declared.Got.the-variants as got
 use Rattle.map.specs.declared.Inserted.{Inserted}
-use Rattle.map.specs.declared.Removed.the-variants as removed
+use Rattle.map.specs.declared.Inserted.the-variants as inserted
 use Rattle.map.specs.declared.Removed.{Removed}
-use Rattle.map.specs.declared.Replaced.the-variants as replaced
+use Rattle.map.specs.declared.Removed.the-variants as removed
 use Rattle.map.specs.declared.Replaced.{Replaced}
-use Rattle.map.specs.declared.list.Listed.the-variants as listed
+use Rattle.map.specs.declared.Replaced.the-variants as replaced
 use Rattle.map.specs.declared.list.Listed.{Listed}
-use Rattle.map.specs.declared.pool.Answer.the-variants as answer
+use Rattle.map.specs.declared.list.Listed.the-variants as listed
 use Rattle.map.specs.declared.pool.Answer.{Answer}
-use Rattle.map.specs.declared.pool.Checked.the-variants as checked
+use Rattle.map.specs.declared.pool.Answer.the-variants as answer
 use Rattle.map.specs.declared.pool.Checked.{Checked}
-use Rattle.map.specs.declared.pool.Counted.the-variants as counted
+use Rattle.map.specs.declared.pool.Checked.the-variants as checked
 use Rattle.map.specs.declared.pool.Counted.{Counted}
-use Rattle.map.specs.declared.pool.Empty.the-variants as empty
+use Rattle.map.specs.declared.pool.Counted.the-variants as counted
 use Rattle.map.specs.declared.pool.Empty.{Empty}
-use Rattle.map.specs.declared.refusal.Early.the-variants as early
+use Rattle.map.specs.declared.pool.Empty.the-variants as empty
 use Rattle.map.specs.declared.refusal.Early.{Early}
-use Rattle.map.specs.declared.refusal.Refusal.the-variants as refusal
+use Rattle.map.specs.declared.refusal.Early.the-variants as early
 use Rattle.map.specs.declared.refusal.Refusal.{Refusal}
-use Rattle.map.specs.declared.set.Got.the-variants as set-got
+use Rattle.map.specs.declared.refusal.Refusal.the-variants as refusal
 use Rattle.map.specs.declared.set.Got.{Got as SetGot}
-use Rattle.map.specs.declared.set.Inserted.the-variants as set-inserted
+use Rattle.map.specs.declared.set.Got.the-variants as set-got
 use Rattle.map.specs.declared.set.Inserted.{Inserted as SetInserted}
-use Rattle.map.specs.declared.set.Removed.the-variants as set-removed
+use Rattle.map.specs.declared.set.Inserted.the-variants as set-inserted
 use Rattle.map.specs.declared.set.Removed.{Removed as SetRemoved}
+use Rattle.map.specs.declared.set.Removed.the-variants as set-removed
 
 -- ---- document 01, "Numbers a caller can be given"
 

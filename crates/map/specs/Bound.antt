@@ -5,10 +5,10 @@ use Prim.Native.Nat.{ℕ}
 use Rattle.model.specs.Bound as model
 use Rattle.model.specs.Bound.{included, excluded, unbounded, boundOf}
 use Rattle.model.specs.Refusal.{noBound}
-use Rattle.tree.specs.declared.search.Aim.the-variants.{Before, After, Start, End}
 use Rattle.tree.specs.declared.search.Aim.{Aim}
-use Rattle.map.specs.declared.bound.Bound.the-variants as bound
+use Rattle.tree.specs.declared.search.Aim.the-variants.{Before, After, Start, End}
 use Rattle.map.specs.declared.bound.Bound.{Bound}
+use Rattle.map.specs.declared.bound.Bound.the-variants as bound
 
 -- an Included lower bound lets its key in, an Excluded one does not; at the upper end as well, so that the gaps differ
 abbrev pub lowerAim : model.Bound → Aim

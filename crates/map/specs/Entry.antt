@@ -17,16 +17,16 @@ use Rattle.model.specs.Written.{Written}
 use Rattle.model.specs.MapCalls.{putAt, crowded}
 use Rattle.model.specs.Source.{view, member}
 use Rattle.lend.specs.Pages.{most, Inside}
-use Rattle.tree.specs.declared.steps.Spot.the-variants as spot
 use Rattle.tree.specs.declared.steps.Spot.{Spot}
+use Rattle.tree.specs.declared.steps.Spot.the-variants as spot
 use Rattle.tree.specs.Sits.{PathIn, PathOf}
 use Rattle.tree.specs.Steps.{spotOf}
-use Rattle.map.specs.declared.entry.Added.the-variants as added
 use Rattle.map.specs.declared.entry.Added.{Added}
-use Rattle.map.specs.declared.entry.Sought.the-variants as sought
+use Rattle.map.specs.declared.entry.Added.the-variants as added
 use Rattle.map.specs.declared.entry.Sought.{Sought}
-use Rattle.map.specs.declared.entry.Struck.the-variants as struck
+use Rattle.map.specs.declared.entry.Sought.the-variants as sought
 use Rattle.map.specs.declared.entry.Struck.{Struck}
+use Rattle.map.specs.declared.entry.Struck.the-variants as struck
 
 -- ---- a key, in a sound pool
 

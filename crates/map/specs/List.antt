@@ -12,14 +12,14 @@ use Rattle.model.specs.Sound.{Sound}
 use Rattle.model.specs.Refusal.{Test, refusal}
 use Rattle.model.specs.Call.{refused}
 use Rattle.tree.specs.declared.search.Aim.{Aim}
-use Rattle.tree.specs.declared.steps.Step.the-variants as step
 use Rattle.tree.specs.declared.steps.Step.{Step}
-use Rattle.tree.specs.Sits.{Along}
+use Rattle.tree.specs.declared.steps.Step.the-variants as step
+use Rattle.tree.specs.Sits.{OnPath}
 use Rattle.tree.specs.Search.{aimed}
-use Rattle.map.specs.declared.list.Listed.the-variants as listed
 use Rattle.map.specs.declared.list.Listed.{Listed}
-use Rattle.map.specs.declared.refusal.Refusal.the-variants as reason
+use Rattle.map.specs.declared.list.Listed.the-variants as listed
 use Rattle.map.specs.declared.refusal.Refusal.{Refusal}
+use Rattle.map.specs.declared.refusal.Refusal.the-variants as reason
 use Rattle.map.specs.Answers.{listedOf}
 
 -- a slice with as much of `front` at its front as it has room for
@@ -51,7 +51,7 @@ front upper n es = take (min n (gapOf (aimed upper) es)) es
 pub record Runs (w : List ℕ) (upper : Aim) (ps ss : List ℕ) (n : ℕ) (ks vs ks′ vs′ : List ℕ) (r : Listed) : Type 0 where
   pub tells : Tells ks vs ks′ vs′ r
   pub late : (e : Refusal) → r ≡ listed.Refused e → e ≡ reason.Unsound
-  pub exact : Along w ps ss (λ h t g. Holds (front upper n (drop g (entries h t))) ks vs ks′ vs′ r)
+  pub exact : OnPath w ps ss (λ h t g. Holds (front upper n (drop g (entries h t))) ks vs ks′ vs′ r)
 
 -- from the gap of `lower`
 pub record Spans (w : List ℕ) (lower upper : Aim) (n : ℕ) (ks vs ks′ vs′ : List ℕ) (r : Listed) : Type 0 where

@@ -41,6 +41,10 @@ module _ {ℓ} {C : Type ℓ} where
       go false e = no-case e
 
 -- a test has one answer
+-- from two things that `cc` proves equal and that are not, such as two variants
+pub never : {C : Type 0} → _≡_ {A = ℕ} 0 1 → C
+never e = absurd (omega arith)
+
 pub contrary : {C : Type 0} {b : Bool} → b ≡ true → b ≡ false → C
 contrary holds fails = absurd (true≢false (sym holds ∙ fails))
 

@@ -17,7 +17,7 @@ use Rattle.model.specs.Tree.{Entry, noEntry, Rising}
 use Rattle.model.specs.Bound.{Bound, included, excluded, unbounded, beforeLower, beforeUpper}
 use Rattle.model.specs.Entries.{has, lookup, gapOf, gapBefore, gapAfter, between, next, prev, above, under, keyFits}
 use Rattle.model.specs.Gap.{at}
-use Rattle.model.proofs.Cases.{either, either-lt, either-eq}
+use Rattle.model.proofs.Cases.{either, either-lt, either-eq, never, contrary}
 use Rattle.model.proofs.Lists.{all-append, all-left, all-right, all-take, all-drop, all-at, all-map, all-of, next-some, next-none, every-true}
 
 -- ---- tests that fall
@@ -185,7 +185,7 @@ pub at-true : (k : ℕ) (es : List Entry) (i : ℕ) → at k es i ≡ true → (
 at-true k es i h =
     either-lt i (length es)
     (λ l. (l, eqb-true (keyAt es i) k (rw (lt-ltb i (length es) l) at h)))
-    (λ l. let z = rw (le-ltb i (length es) l) at h in let o : _≡_ {A = ℕ} 0 1 = cc in absurd (omega arith))
+    (λ l. let z = rw (le-ltb i (length es) l) at h in never (cc))
 
 pub has-key : (k : ℕ) (es : List Entry) → Rising es → has k es ≡ true → (gapBefore k es < length es) × (getD es (gapBefore k es) noEntry .key ≡ k)
 has-key k es r h = at-true k es (gapBefore k es) (sym (has-at k es r) ∙ h)
@@ -215,7 +215,7 @@ pub gap-after-entry : (g : ℕ) (es : List Entry) → Rising es → g < length e
 gap-after-entry g es r b = gap-after-has (keyAt es g) es r (has-entry g es r b) ∙ ap suc (gap-of-entry g es r b)
 
 pub has-absent : (k : ℕ) (es : List Entry) → Rising es → has k es ≡ false → (i : ℕ) → i < length es → keyAt es i ≢ k
-has-absent k es r n i b q = let y : has k es ≡ true = rw q at (has-entry i es r b) in let z : _≡_ {A = ℕ} 0 1 = cc in omega arith
+has-absent k es r n i b q = contrary (rw q at (has-entry i es r b)) n
 
 -- an absent key has one gap
 pub gap-after-absent : (k : ℕ) (es : List Entry) → Rising es → has k es ≡ false → gapAfter k es ≡ gapBefore k es

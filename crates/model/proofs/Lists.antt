@@ -10,7 +10,7 @@ use native.Mathlib.Omega.{arith}
 use lib.ListN.{length, take, drop, getD, set, length-append, length-take, length-drop, getElem?, List·getD-append}
 use lib.Seq.{take-append-le, drop-append-le, take-append-add, drop-append-add, split-at, drop-cons, set-split, set-append-left, set-append-seam, length-take-le, getD-at, getD-take, map-set-same, take-take, take-all}
 use Rattle.model.specs.Lists.{ins, splice, tab, All, final, every, del}
-use Rattle.model.proofs.Cases.{contrary, either-le}
+use Rattle.model.proofs.Cases.{contrary, either-le, never}
 
 module _ {A : Type 0} where
   pub length-ins : (g : ℕ) (x : A) (l : List A) → g ≤ length l → length (ins g x l) ≡ suc (length l)
@@ -237,7 +237,7 @@ take-min n m xs =
 pub every-true : (bs : List Bool) → every bs ≡ true → All (λ b. b ≡ true) bs
 every-true [] e = tt
 every-true (true ∷ bs) e = (refl, every-true bs e)
-every-true (false ∷ bs) e = let z : _≡_ {A = ℕ} 0 1 = cc in absurd (omega arith)
+every-true (false ∷ bs) e = never (cc)
 
 pub every-all : (bs : List Bool) → All (λ b. b ≡ true) bs → every bs ≡ true
 every-all [] a = refl

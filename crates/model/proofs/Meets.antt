@@ -1,7 +1,7 @@
 -- How a call comes to meet its promise: the early tests first, and where none of them applies what is left to show. 6 and 7 come after every other number in document 01's order, so a
 -- call that passes its early tests is given the number of its late ones.
 -- Assumes nothing.
-use mathlib.Core.Path.{_≡_, refl, sym, ap, _∙_}
+use mathlib.Core.Path.{_≡_, refl, sym, ap, ap₂, subst, _∙_}
 use mathlib.Core.Bool.{Bool, true, false, not, cond}
 use mathlib.Core.Logic.{_⊎_, inl}
 use mathlib.Core.List.{List, [], _∷_, _++_, map}
@@ -20,7 +20,7 @@ use Rattle.model.specs.Refusal.{Test, refusal, names, applies, firstOf}
 use Rattle.model.specs.Call.{Call, Outcome, refused, answered, given, left, number, Meets}
 use Rattle.model.specs.PoolCalls.{reads}
 use Rattle.model.specs.MapCalls.{readTests, changeTests}
-use Rattle.model.proofs.Cases.{either, contrary}
+use Rattle.model.proofs.Cases.{either, never, contrary}
 use Rattle.model.proofs.Lists.{every-true}
 use Rattle.model.proofs.Right.{Right}
 use Rattle.model.proofs.Keeps.{Keeps, of-kind, shut-there, keeps-reads}
@@ -149,6 +149,43 @@ module _ {A : Type 0} (c : Call A) (staged : Staged c) (w : List ℕ) where
       after s =
           by-number (refusal (c .late p)) (c .answer p) v w r (c .after p) s (goes .exact s) (goes .kept)
           (λ z. (keeps w s (late-number ∙ z), goes .holds s z))
+
+-- what an answer asks of a sound pool
+pub record Ends {A : Type 0} (c : Call A) (w v : List ℕ) (a : A) : Type 0 where
+  pub passes : refusal (c .late (poolOf w)) ≡ 0
+  pub answers : a ≡ c .answer (poolOf w)
+  pub holds : Written v (c .after (poolOf w))
+  pub still : c .still (poolOf w) ≡ true → v ≡ w
+
+module _ {A : Type 0} {c : Call A} {w v : List ℕ} (staged : Staged c) (keeps : Keeps c) (pass : 0 ≡ refusal (c .early w)) where
+  pub meets-answered : {a : A} → length v ≡ length w → (Sound w → Ends c w v a) → Meets c w v (answered a)
+  meets-answered {a} long ends =
+      meets-late c staged w v (answered a) keeps (sym pass)
+      (record {
+        long = long;
+        late = λ n e. never (cc);
+        kept = λ n e. never (cc);
+        exact = λ s. ap₂ given (sym (ends s .passes)) (ends s .answers);
+        holds = λ s z. ends s .holds;
+        still = λ s. ends s .still;
+      })
+
+  pub meets-stopped : (n : ℕ) → v ≡ w → (suc n ≡ 9) ⊎ (names (suc n) (c .late (poolOf w)) ≡ true) → (Sound w → refusal (c .late (poolOf w)) ≡ suc n)
+      → Meets c w v (refused (suc n))
+  meets-stopped n kept late exact =
+      meets-late c staged w v (refused (suc n)) keeps (sym pass)
+      (record {
+        long = ap length kept;
+        late = λ m e. subst (λ (i : ℕ). (i ≡ 9) ⊎ (names i (c .late (poolOf w)) ≡ true)) (cc) late;
+        kept = λ m e. kept;
+        exact = λ s. ap (λ (i : ℕ). given i (c .answer (poolOf w))) (sym (exact s));
+        holds = λ s z. absurd (omega (arith, exact s));
+        still = λ s z. kept;
+      })
+
+  -- never on a sound pool
+  pub meets-unsound : (v ≡ w) × (Sound w → ⊥) → Meets c w v (refused 9)
+  meets-unsound told = meets-stopped 8 (told .0) (inl refl) (λ s. absurd (told .1 s))
 
 -- a call that only reads
 pub meets-read : {A : Type 0} (tests : List ℕ → List Test) (answer : Pool → A) (w : List ℕ) (r : Outcome A) → Staged (reads tests answer) → refusal (tests w) ≡ 0

@@ -13,7 +13,7 @@ use borrow.Author.Tests.{eq-eqb, ne-eqb}
 use Rattle.model.specs.Lists.{sumTo, same, All}
 use Rattle.model.specs.Layout.{Words}
 use Rattle.model.specs.PageMap.{bit, bitAt, freeFrom, freePages}
-use Rattle.model.proofs.Cases.{either-eq, same-self, same-other}
+use Rattle.model.proofs.Cases.{either-eq, same-self, same-other, never}
 use Rattle.model.proofs.Lists.{all-at, all-map}
 use Rattle.model.proofs.Sums.{sumTo-ext, sumTo-none, sumTo-once, sumTo-front}
 

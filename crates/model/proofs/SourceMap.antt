@@ -23,7 +23,7 @@ use Rattle.model.specs.Call.{Call, answered, given, left, number, Meets}
 use Rattle.model.specs.PoolCalls.{Makes, Copies, poolCount, poolIsEmpty}
 use Rattle.model.specs.MapCalls.{file, strike, pagesRead, Seen, mapInsert, mapGet, mapContains, mapReplace, mapRemove}
 use Rattle.model.specs.Source.{view, member, altered, Mutated, Increasing, Enumerates}
-use Rattle.model.proofs.Cases.{either, either-eq, contrary, either-lt}
+use Rattle.model.proofs.Cases.{either, either-eq, contrary, either-lt, never}
 use Rattle.model.proofs.Lists.{getD-map}
 use Rattle.model.proofs.Entries.{keyAt, rising-at, rising-lo, rising-right, lookup-none, lookup-past, there, has-lookup, has-key, has-entry, gap-le, absent-fits, rising-ins, lookup-at}
 use Rattle.model.proofs.Right.{Right, sound-right}
@@ -34,7 +34,7 @@ use Rattle.model.proofs.Copy.{copy-sound, copy-pool}
 
 given-answered : {A : Type 0} (n : ℕ) (a b : A) → answered b ≡ given n a → (n ≡ 0) × (b ≡ a)
 given-answered zero a b e = (refl, cc)
-given-answered (suc n) a b e = let z : _≡_ {A = ℕ} 0 1 = cc in absurd (omega arith)
+given-answered (suc n) a b e = never (cc)
 
 module _ {A : Type 0} (c : Call A) (w v : List ℕ) (a : A) (s : Sound w) (m : Meets c w v (answered a)) where
   pub answered-number : number c w ≡ 0

@@ -13,19 +13,19 @@ use Rattle.model.specs.PageMap.{bitAt, freeFrom, freePages}
 use Rattle.pagemap.specs.declared.Lowest.the-variants.{Page, None}
 use Rattle.pagemap.specs.Bits.{setBit, clearBit}
 use Rattle.pagemap.specs.Lowest.{freeIn, firstOf}
-use Rattle.model.proofs.Cases.{same-self}
+use Rattle.model.proofs.Cases.{same-self, never}
 use Rattle.model.proofs.PageMap.{free-same, free-is, free-after}
 use Rattle.pagemap.proofs.Map.{set-bits, clear-bits}
 
 -- ---- the first of some pages
 
 first-page : (l : List ℕ) (p : ℕ) → firstOf l ≡ Page p → (0 < length l) × (getD l 0 0 ≡ p)
-first-page [] p e = let z : _≡_ {A = ℕ} 0 1 = cc in absurd (omega arith)
+first-page [] p e = never (cc)
 first-page (x ∷ l) p e = (omega arith, cc)
 
 first-none : (l : List ℕ) → firstOf l ≡ None → l ≡ []
 first-none [] e = refl
-first-none (x ∷ l) e = let z : _≡_ {A = ℕ} 0 1 = cc in absurd (omega arith)
+first-none (x ∷ l) e = never (cc)
 
 -- ---- which page is the lowest free one
 

@@ -23,14 +23,14 @@ use Rattle.model.specs.Pool.{wholeOf, poolOf}
 use Rattle.model.specs.Sound.{Sound}
 use Rattle.model.specs.PoolCalls.{Checks}
 use Rattle.lend.specs.Pages.{most, Inside}
-use Rattle.tree.specs.declared.check.Tally.the-variants as tally
 use Rattle.tree.specs.declared.check.Tally.{Tally}
-use Rattle.tree.specs.declared.search.Got.the-variants as got
+use Rattle.tree.specs.declared.check.Tally.the-variants as tally
 use Rattle.tree.specs.declared.search.Got.{Got}
+use Rattle.tree.specs.declared.search.Got.the-variants as got
 use Rattle.tree.specs.Sits.{Sits}
 use Rattle.tree.specs.Search.{gotBy, GetsBelow}
 use Rattle.tree.specs.Check.{overTree, Walks, Cursored, CursorIs}
-use Rattle.model.proofs.Cases.{either-lt, either-eq, contrary, same-self, same-other, same-le}
+use Rattle.model.proofs.Cases.{either-lt, either-eq, contrary, same-self, same-other, same-le, never}
 use Rattle.model.proofs.Lists.{all-both}
 use Rattle.model.proofs.Sums.{sum-append, sum-le, sumTo-ext}
 use Rattle.model.proofs.PageMap.{bitAt-lt}
@@ -301,7 +301,7 @@ gets-is w (suc l) h p k above r e g s o =
     ∙ ap (λ (x : Found). gotBy above (x .value) (find k (suc l) t .read)) (find-held k least 1 (suc l) t (s .shaped) o)
 
 value-there : (above n v m : ℕ) (x : Option ℕ) → got.Value v m ≡ gotBy above x n → there x ≡ true
-value-there above n v m none e = let z : _≡_ {A = ℕ} 0 1 = cc in absurd (omega arith)
+value-there above n v m none e = never (cc)
 value-there above n v m (some u) e = refl
 
 there-value : (above n : ℕ) (x : Option ℕ) (r : Got) → r ≡ gotBy above x n → there x ≡ true → ((v m : ℕ) → r ≡ got.Value v m → ⊥) → ⊥

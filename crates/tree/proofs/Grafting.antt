@@ -24,7 +24,7 @@ use Rattle.lend.specs.Touches.{Sized, Touches}
 use Rattle.tree.specs.declared.insert.Up.the-variants as up
 use Rattle.tree.specs.Sits.{PathOf, Sits}
 use Rattle.tree.specs.Insert.{freesIn, freshIn, fuller, Fits, Parts, Puts, Marked, upOf, UpStands, grownPages, Grows, InsertsBelow}
-use Rattle.model.proofs.Cases.{either-lt, same-self, same-zero}
+use Rattle.model.proofs.Cases.{either-lt, same-self, same-zero, never}
 use Rattle.model.proofs.Lists.{length-ins, all-take, all-drop, splice-same, splice-more}
 use Rattle.model.proofs.Sums.{sum-splice}
 use Rattle.model.proofs.Search.{path-long}
@@ -92,7 +92,7 @@ module _ {w : List ℕ} {low h : ℕ} {t : Tree (suc h)} {g : ℕ} (a : Ready w 
       where
         go : (o : Up (Tree h)) → upBelow w h t g e ≡ o → Grows w (suc h) t g e w₁ up.Whole
         go (whole c) is = whole-grows c is
-        go (split l x r) is = let other : up.Whole ≡ upOf h (split l x r) = rw is at (G .handed) in let z : _≡_ {A = ℕ} 0 1 = cc in absurd (omega arith)
+        go (split l x r) is = let other : up.Whole ≡ upOf h (split l x r) = rw is at (G .handed) in never (cc)
 
   -- ---- the child split
 
@@ -218,7 +218,7 @@ module _ {w : List ℕ} {low h : ℕ} {t : Tree (suc h)} {g : ℕ} (a : Ready w 
   grows-put w₁ w₂ k v child r₂ G P = go (upBelow w h t g e) refl
     where
       go : (o : Up (Tree h)) → upBelow w h t g e ≡ o → Grows w (suc h) t g e w₂ r₂
-      go (whole c) is = let other : up.Split k v child ≡ upOf h (whole c) = rw is at (G .handed) in let z : _≡_ {A = ℕ} 0 1 = cc in absurd (omega arith)
+      go (whole c) is = let other : up.Split k v child ≡ upOf h (whole c) = rw is at (G .handed) in never (cc)
       go (split l x r) is =
           let handed : up.Split k v child ≡ upOf h (split l x r) = rw is at (G .handed) in
           let key : k ≡ x .key = cc in

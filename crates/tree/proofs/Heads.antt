@@ -13,18 +13,19 @@ use Rattle.model.specs.Layout.{headWords, mapWords, pageWords, firstWord, word}
 use Rattle.model.specs.PageMap.{mapOf}
 use Rattle.model.specs.Tree.{Entry}
 use Rattle.model.specs.Page.{pageOf, countOf, Holds}
-use Rattle.pagemap.specs.declared.Lowest.the-variants as lowest
 use Rattle.pagemap.specs.declared.Lowest.{Lowest}
+use Rattle.pagemap.specs.declared.Lowest.the-variants as lowest
 use Rattle.pagemap.specs.Bits.{clearBit}
 use Rattle.pagemap.specs.Lowest.{firstOf, took}
 use Rattle.page.specs.Node.{alone}
 use Rattle.lend.specs.Pages.{most, Inside, OnlyPages}
 use Rattle.lend.specs.Touches.{MapBecomes}
-use Rattle.tree.specs.declared.search.Below.the-variants as below
 use Rattle.tree.specs.declared.search.Below.{Below}
+use Rattle.tree.specs.declared.search.Below.the-variants as below
 use Rattle.tree.specs.Search.{belowOf}
 use Rattle.tree.specs.Insert.{freesIn, Rooted, Tops, NewRoots}
 use Rattle.tree.specs.Remove.{Lowered, Lowers}
+use Rattle.model.proofs.Cases.{never}
 use Rattle.pagemap.proofs.Taking.{lowest-is}
 use Rattle.lend.proofs.Touching.{only-map, only-word, touches-word}
 use Rattle.tree.proofs.Searching.{no-page}
@@ -102,7 +103,7 @@ module _ (levels : ℕ) (e : Entry) (l r : ℕ) {w w₁ : List ℕ} where
   roots-none first none m = record {
     long = m .keeps .long;
     count = touches-word (m .keeps) 2 (omega arith);
-    tops = λ q is. let z : _≡_ {A = ℕ} 0 1 = cc in absurd (omega arith);
+    tops = λ q is. never (cc);
   }
 
   -- page q is taken, then written, and then named by the head

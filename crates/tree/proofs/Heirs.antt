@@ -16,10 +16,10 @@ use Rattle.page.specs.declared.Change.{Change}
 use Rattle.page.specs.Node.{less, instead}
 use Rattle.page.specs.Page.{holdsAt}
 use Rattle.lend.specs.Pages.{most, nodeIn, Becomes, ChangesIn}
-use Rattle.tree.specs.declared.remove.Gone.the-variants as gone
 use Rattle.tree.specs.declared.remove.Gone.{Gone}
+use Rattle.tree.specs.declared.remove.Gone.the-variants as gone
 use Rattle.tree.specs.Remove.{TakesOut, Inherits}
-use Rattle.model.proofs.Cases.{either}
+use Rattle.model.proofs.Cases.{either, never}
 use Rattle.model.proofs.Lists.{final-at}
 use Rattle.model.proofs.Gone.{gone-at}
 use Rattle.model.proofs.Read.{length-own}
@@ -82,7 +82,7 @@ module _ (w : List ℕ) (p s : ℕ) {x : Gone} where
     answer = rw e (either (ltb s (countOf (pageOf w p))) (λ y. rw y) (λ n. rw n));
     kept = λ _. refl;
     past = λ _. refl;
-    holds = λ k v f. let z : _≡_ {A = ℕ} 0 1 = cc in absurd (omega arith);
+    holds = λ k v f. never (cc);
   }
 
   pub inherits-past : (k v : ℕ) → x ≡ gone.Last k v → countOf (pageOf w p) ≤ s → Inherits p s x w w (gone.Last k v)
@@ -99,7 +99,7 @@ module _ (w : List ℕ) (p s : ℕ) {x : Gone} where
   inherits-inside {w′} k v e b c = record {
     only = c .only;
     answer = rw (lt-ltb s (countOf (pageOf w p)) b);
-    kept = λ f. let z : _≡_ {A = ℕ} 0 1 = cc in absurd (omega arith);
+    kept = λ f. never (cc);
     past = λ l. absurd (omega arith);
     holds = λ k′ v′ f l few.
         let ek : k ≡ k′ = cc in

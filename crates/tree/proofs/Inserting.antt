@@ -27,11 +27,11 @@ use Rattle.pagemap.specs.declared.Lowest.the-variants as lowest
 use Rattle.pagemap.specs.Lowest.{freeIn, firstOf}
 use Rattle.lend.specs.Touches.{Sized}
 use Rattle.tree.specs.declared.insert.Inserted.the-variants as inserted
-use Rattle.tree.specs.declared.insert.Up.the-variants as up
 use Rattle.tree.specs.declared.insert.Up.{Up}
+use Rattle.tree.specs.declared.insert.Up.the-variants as up
 use Rattle.tree.specs.Sits.{PathOf}
 use Rattle.tree.specs.Insert.{freesIn, freshIn, Needs, upOf, UpStands, Grows, InsertsBelow, NewRoots, Inserts}
-use Rattle.model.proofs.Cases.{either-eq, contrary}
+use Rattle.model.proofs.Cases.{either-eq, contrary, never}
 use Rattle.model.proofs.Lists.{length-ins, ins-before, all-append, all-left, all-right, all-take, all-at, take-tab, getD-tab, length-tab}
 use Rattle.model.proofs.PageMap.{free-same}
 use Rattle.model.proofs.Insert.{upTimes, Used, insertAt-used, insertAt-times, insert-held, upLeft, insertAt-root}
@@ -222,7 +222,7 @@ pub inserts-done : (w ps ss : List ℕ) (e : Entry) (k : ℕ) (w₁ : List ℕ) 
 unfolding held meets
 inserts-done w ps ss e k w₁ u w₂ fits many needs enough below topped = record {
   long = length-set w₂ 2 (word w₂ 2 + 1) ∙ topped-long ps u w₁ w₂ topped ∙ below .long;
-  kept = λ x. let z : _≡_ {A = ℕ} 0 1 = cc in absurd (omega arith);
+  kept = λ x. never (cc);
   exact = λ g sound b path. rw (crowded-room w ps k g needs sound b (path .pages) enough);
   holds = λ g sound b path before _.
       let P = poolOf w in

@@ -5,18 +5,17 @@ use mathlib.Core.Path.{_≡_, refl, ap, subst₂, _∙_}
 use mathlib.Core.Bool.{Bool, true}
 use mathlib.Core.List.{List}
 use Prim.Native.Nat.{ℕ, suc}
-use native.Mathlib.Omega.{arith}
 use Rattle.model.specs.PageMap.{mapOf}
 use Rattle.pagemap.specs.Bits.{clearBit}
-use Rattle.page.specs.declared.Change.the-variants as change
 use Rattle.page.specs.declared.Change.{Change}
+use Rattle.page.specs.declared.Change.the-variants as change
 use Rattle.page.specs.Page.{did}
 use Rattle.lend.specs.Pages.{MovesIn, canJoin, JoinsIn}
 use Rattle.lend.specs.Touches.{MapBecomes}
 use Rattle.tree.specs.declared.search.Below.the-variants as below
 use Rattle.tree.specs.Search.{belowOf}
 use Rattle.tree.specs.Remove.{MovesBelow, Joined, JoinsBelow}
-use Rattle.model.proofs.Cases.{contrary}
+use Rattle.model.proofs.Cases.{contrary, never}
 use Rattle.lend.proofs.Touching.{touches-then, only-touches, only-map}
 use Rattle.tree.proofs.Searching.{no-page, one-page}
 
@@ -61,7 +60,7 @@ module _ (u j : ℕ) (w : List ℕ) where
       joins = λ l′ r′ el′ er′ can.
           let can′ : canJoin w u j l r ≡ true = subst₂ (λ (x y : ℕ). canJoin w u j x y ≡ true) (one-page el′ el) (one-page er′ er) can in
           let accepted : a ≡ change.Done = c .answer ∙ ap did can′ in
-          let z : _≡_ {A = ℕ} 0 1 = cc in absurd (omega arith);
+          never (cc);
     }
 
     pub joins-freed : {w₂ : List ℕ} → a ≡ change.Done → MapBecomes (clearBit (mapOf w₁) r) w₁ w₂ → JoinsBelow u j w w₂

@@ -23,6 +23,7 @@ use Rattle.lend.specs.Pages.{most, Inside, nodeIn, ChangesIn, canSplit, SplitsI
 use Rattle.lend.specs.Touches.{Sized, MapBecomes}
 use Rattle.tree.specs.declared.insert.Up.the-variants as up
 use Rattle.tree.specs.Insert.{freesIn, Puts}
+use Rattle.model.proofs.Cases.{never}
 use Rattle.pagemap.proofs.Taking.{lowest-is}
 use Rattle.page.proofs.Pages.{room-at, full-at}
 use Rattle.lend.proofs.Touching.{only-touches, only-map}
@@ -46,7 +47,7 @@ module _ (w : List ℕ) (p slot : ℕ) (e : Entry) (child : ℕ) where
     long = c .keeps .long;
     head = c .keeps .head;
     fits = λ some few low. absurd (omega arith);
-    parts = λ q full low free apart. let z : _≡_ {A = ℕ} 0 1 = cc in absurd (omega arith);
+    parts = λ q full low free apart. never (cc);
   }
 
   -- the page is full, and page q is taken
@@ -96,6 +97,5 @@ module _ (w : List ℕ) (p slot : ℕ) (e : Entry) (child : ℕ) where
           let same : q′ ≡ q = cc in
           let can = can-split (λ i. apart (i ∙ sym same)) count low in
           let a = rw can at (d .answer) in
-          let z : _≡_ {A = ℕ} 0 1 = cc in
-          absurd (omega arith);
+          never (cc);
     }

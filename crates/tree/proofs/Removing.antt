@@ -25,7 +25,7 @@ use Rattle.lend.specs.Touches.{Sized}
 use Rattle.tree.specs.declared.remove.Gone.{Gone}
 use Rattle.tree.specs.Sits.{PathOf, Sits, AtEntry}
 use Rattle.tree.specs.Remove.{nearIn, RemovesBelow, CanRemove, Lowered, Lowers, Removes}
-use Rattle.model.proofs.Cases.{contrary, either-le}
+use Rattle.model.proofs.Cases.{contrary, either-le, never}
 use Rattle.model.proofs.Lists.{all-at, length-del, del-before}
 use Rattle.model.proofs.Sums.{sum-single}
 use Rattle.model.proofs.PageMap.{bitAt-lt}
@@ -157,7 +157,7 @@ pub removes-done : (w ps ss w₁ w₂ : List ℕ) (u : Gone) → headed w ≡ tr
 unfolding held meets remove
 removes-done w ps ss w₁ w₂ u fits many below lowers = record {
   long = length-set w₂ 2 (word w₂ 2 - 1) ∙ lowers .long ∙ below .long;
-  kept = λ x. let z : _≡_ {A = ℕ} 0 1 = cc in absurd (omega arith);
+  kept = λ x. never (cc);
   sound = λ _ _ _ _. refl;
   holds = λ g sound b path before.
       let P = poolOf w in

@@ -18,21 +18,21 @@ use Rattle.model.specs.Page.{pageOf, countOf, heightOf, entryIn, childIn, entri
 use Rattle.model.specs.Standing.{numberOf}
 use Rattle.model.specs.Entries.{gapOf, gapBefore}
 use Rattle.model.specs.Gap.{child, at, Found, deeper, find}
-use Rattle.page.specs.declared.Place.the-variants as place
 use Rattle.page.specs.declared.Place.{Place}
+use Rattle.page.specs.declared.Place.the-variants as place
 use Rattle.page.specs.Page.{counted, placeOf}
 use Rattle.lend.specs.Pages.{most}
-use Rattle.tree.specs.declared.search.Aim.the-variants.{Before, After, Start, End}
 use Rattle.tree.specs.declared.search.Aim.{Aim}
-use Rattle.tree.specs.declared.search.Below.the-variants as below
+use Rattle.tree.specs.declared.search.Aim.the-variants.{Before, After, Start, End}
 use Rattle.tree.specs.declared.search.Below.{Below}
-use Rattle.tree.specs.declared.search.Got.the-variants as got
+use Rattle.tree.specs.declared.search.Below.the-variants as below
 use Rattle.tree.specs.declared.search.Got.{Got}
-use Rattle.tree.specs.declared.search.Slot.the-variants as slot
+use Rattle.tree.specs.declared.search.Got.the-variants as got
 use Rattle.tree.specs.declared.search.Slot.{Slot}
+use Rattle.tree.specs.declared.search.Slot.the-variants as slot
 use Rattle.tree.specs.Sits.{Sits}
 use Rattle.tree.specs.Search.{belowOf, placeAt, lastAt, aimed, beforeSlot, afterSlot, startSlot, slotOf, gotBy, gotOf, GetsBelow}
-use Rattle.model.proofs.Cases.{either, either-le, either-lt}
+use Rattle.model.proofs.Cases.{either, either-le, either-lt, never}
 use Rattle.model.proofs.Lists.{every-true}
 use Rattle.model.proofs.Entries.{gap-le, has-at, gap-after-has, at-true, gap-after-absent, gap-start, gap-end}
 use Rattle.model.proofs.Search.{rising-own}
@@ -45,7 +45,7 @@ use Rattle.tree.proofs.Sitting.{sits-height, sits-own, sits-some, sits-
 
 -- an answer is one of the two
 pub no-page : {C : Type 0} {a : Below} {c : ℕ} → a ≡ below.Unsound → a ≡ below.Page c → C
-no-page lost here = let z : _≡_ {A = ℕ} 0 1 = cc in absurd (omega arith)
+no-page lost here = never (cc)
 
 pub one-page : {a : Below} {c d : ℕ} → a ≡ below.Page c → a ≡ below.Page d → c ≡ d
 one-page here there = cc
@@ -275,7 +275,7 @@ module _ (w : List ℕ) (p h k above : ℕ) where
         rw (find-down k h t (says .1), find-none k h (child h t (gapBefore k (t .own))) z)
 
     pub get-lost : {r : Got} → 0 < h → belowOf w p i ≡ below.Unsound → GetsBelow w p h k above r
-    get-lost l b low t s q = let z : _≡_ {A = ℕ} 0 1 = cc (gap-below w p h k i e l low t s q) in absurd (omega arith)
+    get-lost l b low t s q = never (cc (gap-below w p h k i e l low t s q))
 
 -- the child's answer is the page's
 pub get-down : (w : List ℕ) (p h n k above i c : ℕ) {r : Got} → suc n ≡ h → placeAt w p h k ≡ place.Gap i → belowOf w p i ≡ below.Page c

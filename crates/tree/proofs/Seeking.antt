@@ -17,15 +17,15 @@ use Rattle.model.specs.Pool.{heldBy, wholeOf, poolOf}
 use Rattle.model.specs.Sound.{Sound}
 use Rattle.model.specs.MapCalls.{pagesRead}
 use Rattle.lend.specs.Pages.{Inside}
-use Rattle.tree.specs.declared.search.Aim.the-variants.{Before, After, Start, End}
 use Rattle.tree.specs.declared.search.Aim.{Aim}
+use Rattle.tree.specs.declared.search.Aim.the-variants.{Before, After, Start, End}
 use Rattle.tree.specs.declared.search.Below.the-variants as below
-use Rattle.tree.specs.declared.search.Got.the-variants as got
 use Rattle.tree.specs.declared.search.Got.{Got}
+use Rattle.tree.specs.declared.search.Got.the-variants as got
 use Rattle.tree.specs.declared.search.Slot.the-variants as slot
-use Rattle.tree.specs.Sits.{PathIn, PathOf, Sits}
+use Rattle.tree.specs.Sits.{PathIn, PathOf, Sits, From}
 use Rattle.tree.specs.Search.{belowOf, slotOf, aimed, gotOf, GetsBelow, Gets, SeeksBelow, Seeks}
-use Rattle.model.proofs.Cases.{contrary}
+use Rattle.model.proofs.Cases.{contrary, never}
 use Rattle.model.proofs.Entries.{Falls, falls-below, falls-up-to, gap-le}
 use Rattle.model.proofs.Search.{seekChild, seek-rising, seek-pages, seek-slots, find-held}
 use Rattle.model.proofs.Right.{sound-right}
@@ -33,17 +33,13 @@ use Rattle.model.proofs.Written.{sound-written}
 use Rattle.tree.proofs.Sitting.{sits-child, sits-below, sound-sits}
 use Rattle.tree.proofs.Searching.{slot-few, own-rising, sits-aim}
 
--- Q of each tree of n levels that sits in the pool, with its root at page p
-abbrev Each : List ℕ → ℕ → ℕ → ((h : ℕ) → Tree (suc h) → Type 0) → Type 0
-Each w p n Q = (low h : ℕ) (t : Tree (suc h)) → n ≡ suc h → Sits w low (suc h) t → Rising (entries (suc h) t) → t .page ≡ p → Q h t
-
 module _ (w : List ℕ) (p : ℕ) (aim : Aim) where
   -- the path that is to be found
   abbrev Finds : Bool → List ℕ → List ℕ → (h : ℕ) → Tree (suc h) → Type 0
   Finds r ps ss h t = (r ≡ true) × (ps ≡ seekPages (aimed aim) (suc h) t) × (ss ≡ seekSlots (aimed aim) (suc h) t)
 
   seeks : {ps ss ps′ ss′ : List ℕ} {r : Bool} → length ps′ ≡ length ps → length ss′ ≡ length ss → (r ≡ true → PathIn w ps′ ss′)
-      → Each w p (length ps) (Finds r ps′ ss′) → SeeksBelow w p aim ps ss ps′ ss′ r
+      → From w p (length ps) (Finds r ps′ ss′) → SeeksBelow w p aim ps ss ps′ ss′ r
   seeks a b c d = record {
     pages = a;
     slots = b;
@@ -54,32 +50,31 @@ module _ (w : List ℕ) (p : ℕ) (aim : Aim) where
   }
 
   -- no tree sits there
-  seeks-none : {ps ss ps′ ss′ : List ℕ} → length ps′ ≡ length ps → length ss′ ≡ length ss → Each w p (length ps) (λ h t. ⊥)
+  seeks-none : {ps ss ps′ ss′ : List ℕ} → length ps′ ≡ length ps → length ss′ ≡ length ss → From w p (length ps) (λ h t. ⊥)
       → SeeksBelow w p aim ps ss ps′ ss′ false
   seeks-none a b d = seeks a b (λ e. contrary e refl) (λ low h t n s r q. absurd (d low h t n s r q))
 
   -- the page's slot, as its words have it, is the tree's
-  slot-is : (n i : ℕ) → slotOf w p n aim ≡ slot.At i → Each w p (suc n) (λ h t. gapOf (aimed aim) (t .own) ≡ i)
+  slot-is : (n i : ℕ) → slotOf w p n aim ≡ slot.At i → From w p (suc n) (λ h t. gapOf (aimed aim) (t .own) ≡ i)
   slot-is n i e low h t k s r q =
       let n-is-h : n ≡ h = omega arith in
       let at : slotOf w p h aim ≡ slot.At i = subst (λ m. slotOf w p m aim ≡ slot.At i) n-is-h e in
       let here : slotOf w p h aim ≡ slot.At (gapOf (aimed aim) (t .own)) = rw (← q) (sits-aim w low h t s aim (own-rising h t r)) in
       cc
 
-  slot-never : (n : ℕ) → slotOf w p n aim ≡ slot.Unsound → Each w p (suc n) (λ h t. ⊥)
+  slot-never : (n : ℕ) → slotOf w p n aim ≡ slot.Unsound → From w p (suc n) (λ h t. ⊥)
   slot-never n e low h t k s r q =
       let n-is-h : n ≡ h = omega arith in
       let at : slotOf w p h aim ≡ slot.Unsound = subst (λ m. slotOf w p m aim ≡ slot.Unsound) n-is-h e in
       let here : slotOf w p h aim ≡ slot.At (gapOf (aimed aim) (t .own)) = rw (← q) (sits-aim w low h t s aim (own-rising h t r)) in
-      let z : _≡_ {A = ℕ} 0 1 = cc in
-      omega arith
+      never (cc)
 
   seek-unsound : (n : ℕ) (ps ss : List ℕ) → suc n ≡ length ps → slotOf w p n aim ≡ slot.Unsound → SeeksBelow w p aim ps ss ps ss false
-  seek-unsound n ps ss k e = seeks-none refl refl (subst (λ m. Each w p m (λ h t. ⊥)) k (slot-never n e))
+  seek-unsound n ps ss k e = seeks-none refl refl (subst (λ m. From w p m (λ h t. ⊥)) k (slot-never n e))
 
   module _ (n i : ℕ) (e : slotOf w p n aim ≡ slot.At i) where
     -- the child, as the page's words have it, is the tree's
-    child-is : 0 < n → Each w p (suc n) (λ h t. belowOf w p i ≡ below.Page (numberOf h (seekChild (aimed aim) h t)))
+    child-is : 0 < n → From w p (suc n) (λ h t. belowOf w p i ≡ below.Page (numberOf h (seekChild (aimed aim) h t)))
     child-is l low h t k s r q =
         rw (← q, ← (slot-is n i e low h t k s r q)) (sits-below w low h t s (omega arith) (gapOf (aimed aim) (t .own)) (gap-le (aimed aim) (t .own)))
 
@@ -98,7 +93,7 @@ module _ (w : List ℕ) (p : ℕ) (aim : Aim) where
 
     seek-lost : (x y : ℕ) (ps ss : List ℕ) → n ≡ length ps → 0 < n → belowOf w p i ≡ below.Unsound → SeeksBelow w p aim (x ∷ ps) (y ∷ ss) (p ∷ ps) (i ∷ ss) false
     seek-lost x y ps ss k l b =
-        seeks-none refl refl (λ low h t k′ s r q. let z : _≡_ {A = ℕ} 0 1 = cc (child-is l low h t (ap suc k ∙ k′) s r q) in omega arith)
+        seeks-none refl refl (λ low h t k′ s r q. never (cc (child-is l low h t (ap suc k ∙ k′) s r q)))
 
     down-finds : {a : Bool} {ps ss qs rs : List ℕ} (c : ℕ) → belowOf w p i ≡ below.Page c → 0 < n → n ≡ length ps → SeeksBelow w c aim ps ss qs rs a
         → (low h : ℕ) (t : Tree (suc h)) → suc n ≡ suc h → Sits w low (suc h) t → Rising (entries (suc h) t) → t .page ≡ p

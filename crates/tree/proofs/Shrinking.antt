@@ -21,8 +21,8 @@ use Rattle.model.specs.Gap.{slotAt, restAt, child, childAt, gapPages, gapSlots}
 use Rattle.model.specs.Remove as removal
 use Rattle.model.specs.Remove.{step, stepFreed, removeAt, freedAt}
 use Rattle.lend.specs.Pages.{most}
-use Rattle.tree.specs.declared.remove.Gone.the-variants as gone
 use Rattle.tree.specs.declared.remove.Gone.{Gone}
+use Rattle.tree.specs.declared.remove.Gone.the-variants as gone
 use Rattle.tree.specs.Sits.{PathOf, Sits}
 use Rattle.tree.specs.Insert.{Marked}
 use Rattle.tree.specs.Remove.{near, Mends, Mended, TakesOut, inheritedBy, Inherits, goneBy, goneOf, nearPages, Shrinks, RemovesBelow}

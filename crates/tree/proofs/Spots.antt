@@ -17,11 +17,11 @@ use Rattle.model.specs.Page.{pageOf}
 use Rattle.model.specs.Gap.{slotAt, restAt, child, childAt, gapPages, gapSlots}
 use Rattle.page.specs.Page.{holdsAt}
 use Rattle.lend.specs.Pages.{most, Inside}
-use Rattle.tree.specs.declared.steps.Spot.the-variants as spot
 use Rattle.tree.specs.declared.steps.Spot.{Spot}
+use Rattle.tree.specs.declared.steps.Spot.the-variants as spot
 use Rattle.tree.specs.Sits.{PathIn, Sits}
 use Rattle.tree.specs.Steps.{spotOf, spotBefore, orElse, hereAfter, hereBefore, deepest, Within, Spots, SpotAfter, SpotBefore}
-use Rattle.model.proofs.Cases.{either, either-lt}
+use Rattle.model.proofs.Cases.{either, either-lt, never}
 use Rattle.model.proofs.Lists.{next-some, next-none}
 use Rattle.model.proofs.Gap.{way-down, child-shaped}
 use Rattle.model.proofs.Path.{slot-at-end, rest-at-end}
@@ -86,8 +86,8 @@ module _ (here : ℕ → ℕ → Spot) where
   -- what a page inside the pool has can be read, so can what the path has
   within-path : (w ps ss : List ℕ) → ((p s : ℕ) → Inside p w → Within w (here p s)) → All (λ p. Inside p w) ps → Within w (deepest here ps ss)
   unfolding deepest
-  within-path w [] ss f a p s e = let z : _≡_ {A = ℕ} 0 1 = cc in absurd (omega arith)
-  within-path w (x ∷ ps) [] f a p s e = let z : _≡_ {A = ℕ} 0 1 = cc in absurd (omega arith)
+  within-path w [] ss f a p s e = never (cc)
+  within-path w (x ∷ ps) [] f a p s e = never (cc)
   within-path w (x ∷ ps) (y ∷ ss) f a p s e = go (within-path w ps ss f (a .1)) (deepest here ps ss) refl e
     where
       go : Within w (deepest here ps ss) → (r : Spot) → deepest here ps ss ≡ r → orElse r (here x y) ≡ spot.At p s → Inside p w × (s < most)
@@ -104,11 +104,11 @@ within-after w p s b q i e =
     let ep : p ≡ q = cc (z) in
     let es : s ≡ i = cc (z) in
     (omega arith, omega arith))
-    (λ n. let z : spot.End ≡ spot.At q i = rw n at e in let o : _≡_ {A = ℕ} 0 1 = cc (z) in absurd (omega arith))
+    (λ n. let z : spot.End ≡ spot.At q i = rw n at e in never (cc (z)))
 
 within-before : (w : List ℕ) (p s : ℕ) → Inside p w → Within w (hereBefore w p s)
 unfolding hereBefore
-within-before w p zero b q i e = let z : _≡_ {A = ℕ} 0 1 = cc in absurd (omega arith)
+within-before w p zero b q i e = never (cc)
 within-before w p (suc s) b q i e = within-after w p s b q i e
 
 -- ---- of a tree
@@ -129,8 +129,7 @@ module _ (m : ℕ) where
       (λ y. rw (lt-ltb i (length (t .own)) y))
       (λ o.
       let x = next-seam m low h t s g (omega arith) (omega arith) in
-      let z : _≡_ {A = ℕ} 0 1 = cc (x, next-some (entries (suc h) t) g noEntry b, next-none (t .own) i o) in
-      absurd (omega arith))))
+      never (cc (x, next-some (entries (suc h) t) g noEntry b, next-none (t .own) i o)))))
 
   -- and at the end there is none
   pub spot-end : (low h : ℕ) (t : Tree h) (g : ℕ) → Shaped m low h t → g ≡ size h t → spotOf h t g ≡ spot.End

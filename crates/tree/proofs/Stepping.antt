@@ -18,7 +18,7 @@ use Rattle.tree.specs.declared.steps.Step.the-variants as step
 use Rattle.tree.specs.Sits.{PathIn, PathOf, Sits}
 use Rattle.tree.specs.Search.{aimed}
 use Rattle.tree.specs.Steps.{stepBy, Steps, Overs}
-use Rattle.model.proofs.Cases.{either-lt}
+use Rattle.model.proofs.Cases.{either-lt, never}
 use Rattle.model.proofs.Lists.{next-some, next-none}
 use Rattle.model.proofs.Entries.{gap-start, gap-end}
 use Rattle.model.proofs.Gap.{way-down}
@@ -47,11 +47,11 @@ pub record Seam (over : ℕ → List Entry → Option Entry) (to : Option Entry 
 
 -- where the next is none, the gap is the end
 next-end : (l : List Entry) (g : ℕ) → g ≤ length l → next g l ≡ none → g ≡ length l
-next-end l g b e = either-lt g (length l) (λ n. let z : _≡_ {A = ℕ} 0 1 = cc (next-some l g noEntry n) in absurd (omega arith)) (λ n. omega arith)
+next-end l g b e = either-lt g (length l) (λ n. never (cc (next-some l g noEntry n))) (λ n. omega arith)
 
 prev-start : (l : List Entry) (g : ℕ) → g ≤ length l → prev g l ≡ none → g ≡ 0
 prev-start l zero b e = refl
-prev-start l (suc g) b e = let z : _≡_ {A = ℕ} 0 1 = cc (next-some l g noEntry b) in absurd (omega arith)
+prev-start l (suc g) b e = never (cc (next-some l g noEntry b))
 
 pub forward : Way next forth
 forward = record {
@@ -60,7 +60,7 @@ forward = record {
   under = λ m low h t g e s b q.
       either-lt (restAt h t g) (size h (childAt h t g))
       (λ l. let r = next-under m low h t s g b l in (r .0 ∙ q, r .1, r .2))
-      (λ l. let z : _≡_ {A = ℕ} 0 1 = cc (next-none (entries h (childAt h t g)) (restAt h t g) l) in absurd (omega arith));
+      (λ l. never (cc (next-none (entries h (childAt h t g)) (restAt h t g) l)));
 }
 
 pub forward-seam : (m low h : ℕ) (t : Tree (suc h)) (g : ℕ) → Shaped m low (suc h) t → g ≤ size (suc h) t → restAt h t g ≤ size h (childAt h t g)
@@ -88,7 +88,7 @@ backward = record {
     under : (m low h : ℕ) (t : Tree (suc h)) (g : ℕ) (e : Entry) → Shaped m low (suc h) t → g ≤ size (suc h) t → (r : ℕ) → restAt h t g ≡ r
         → prev r (entries h (childAt h t g)) ≡ some e
         → (prev g (entries (suc h) t) ≡ some e) × (slotAt h t (back (some e) g) ≡ slotAt h t g) × (restAt h t (back (some e) g) ≡ back (some e) r)
-    under m low h t g e s b zero i q = let z : _≡_ {A = ℕ} 0 1 = cc in absurd (omega arith)
+    under m low h t g e s b zero i q = never (cc)
     under m low h t zero e s b (suc r) i q = absurd (omega (arith, way-down m low h t 0 s b .place))
     under m low h t (suc g) e s b (suc r) i q = let v = prev-under m low h t s g b r i in (v .0 ∙ q, v .1, v .2)
 
@@ -152,7 +152,7 @@ rising-child w low h t i s r b =
 
 step-none : (o : Option Entry) → step.End ≡ stepBy o → o ≡ none
 step-none none e = refl
-step-none (some y) e = let z : _≡_ {A = ℕ} 0 1 = cc in absurd (omega arith)
+step-none (some y) e = never (cc)
 
 module _ (over : ℕ → List Entry → Option Entry) (to : Option Entry → ℕ → ℕ) (way : Way over to) (w : List ℕ) where
   -- where nothing stands over the gap, nothing is done
@@ -162,7 +162,7 @@ module _ (over : ℕ → List Entry → Option Entry) (to : Option Entry → ℕ
   step-still f = record {
     pages = refl;
     slots = refl;
-    inside = λ k v e. let z : _≡_ {A = ℕ} 0 1 = cc in absurd (omega arith);
+    inside = λ k v e. never (cc);
     still = λ _. (refl, refl);
     exact = λ low h t g s r b a. rw (f low h t g s r b a);
     path = λ low h t g s r b a. rw (f low h t g s r b a, way .stays g) a;

@@ -20,15 +20,15 @@ use Rattle.model.specs.Entries.{next, prev, forth, back}
 use Rattle.model.specs.Gap.{slotAt, restAt, child, childAt, gapPages, seekPages, seekSlots}
 use Rattle.page.specs.Page.{holdsAt}
 use Rattle.lend.specs.Pages.{most}
-use Rattle.tree.specs.declared.search.Aim.the-variants.{Start, End}
 use Rattle.tree.specs.declared.search.Aim.{Aim}
+use Rattle.tree.specs.declared.search.Aim.the-variants.{Start, End}
 use Rattle.tree.specs.declared.search.Below.the-variants as below
-use Rattle.tree.specs.declared.steps.Step.the-variants as step
 use Rattle.tree.specs.declared.steps.Step.{Step}
+use Rattle.tree.specs.declared.steps.Step.the-variants as step
 use Rattle.tree.specs.Sits.{PathIn, Sits}
 use Rattle.tree.specs.Search.{aimed, belowOf, SeeksBelow}
 use Rattle.tree.specs.Steps.{Steps, Turns, Overs, Forth, Back}
-use Rattle.model.proofs.Cases.{either, either-lt, contrary}
+use Rattle.model.proofs.Cases.{either, either-lt, contrary, never}
 use Rattle.model.proofs.Search.{path-long}
 use Rattle.page.proofs.Pages.{holds-facts, holds-at}
 use Rattle.lend.proofs.Lent.{own-at}
@@ -63,7 +63,7 @@ module _ (w : List ℕ) (p at : ℕ) (aim : Aim) (ps ss : List ℕ) where
     pages = refl;
     slots = refl;
     inside = λ q. contrary q refl;
-    exact = λ low h t l u _ f. let b = f (omega arith) in let z : _≡_ {A = ℕ} 0 1 = cc in absurd (omega arith);
+    exact = λ low h t l u _ f. let b = f (omega arith) in never (cc);
   }
 
   pub turn-sought : {c : ℕ} {ps′ ss′ : List ℕ} {r : Bool} → (length ps ≡ 0 → ⊥) → belowOf w p at ≡ below.Page c → SeeksBelow w c aim ps ss ps′ ss′ r
@@ -104,7 +104,7 @@ module _ (w : List ℕ) (s i : ℕ) (aim : Aim) where
   over-end ps ss n = record {
     pages = refl;
     slots = refl;
-    inside = λ k v e. let z : _≡_ {A = ℕ} 0 1 = cc in absurd (omega arith);
+    inside = λ k v e. never (cc);
     still = λ _. (refl, refl);
     none = λ low h t u p l. refl;
     over = λ low h t _ u _ p l _. contrary (ap (λ (q : ℕ). holdsAt most (pageOf w q) s 0) p ∙ holds-own w low h t s u ∙ lt-ltb s (length (t .own)) l) n;
@@ -121,7 +121,7 @@ module _ (w : List ℕ) (s i : ℕ) (aim : Aim) where
         pages = ap suc (c′ .pages);
         slots = ap suc (c′ .slots);
         inside = λ k′ v′. inside b k′ v′ (c′ .inside);
-        still = λ z. absurd (never b z);
+        still = λ z. absurd (no-end b z);
         none = λ low h t u z n.
             contrary y (ap (λ (q : ℕ). holdsAt most (pageOf w q) s 0) z ∙ holds-own w low h t s u ∙ le-ltb s (length (t .own)) n);
         over = λ low h t z u up g n m. on low h t z u up g n m;
@@ -130,12 +130,12 @@ module _ (w : List ℕ) (s i : ℕ) (aim : Aim) where
       c′ : Turns w p i aim ps ss ps′ ss′ b
       c′ = rw (behind-is p ps, behind-is i ss) at c
 
-      never : (b : Bool) → overBy b k v ≡ step.End → ⊥
-      never true z = let o : _≡_ {A = ℕ} 0 1 = cc in omega arith
-      never false z = let o : _≡_ {A = ℕ} 0 1 = cc in omega arith
+      no-end : (b : Bool) → overBy b k v ≡ step.End → ⊥
+      no-end true z = never (cc)
+      no-end false z = never (cc)
 
       inside : (b : Bool) (k′ v′ : ℕ) → (b ≡ true → PathIn w ps′ ss′) → overBy b k v ≡ step.Entry k′ v′ → PathIn w (p ∷ ps′) (i ∷ ss′)
-      inside false k′ v′ g z = let o : _≡_ {A = ℕ} 0 1 = cc in absurd (omega arith)
+      inside false k′ v′ g z = never (cc)
       inside true k′ v′ g z =
           let r = g refl in
           let h = holds-facts most (pageOf w p) s 0 y in
@@ -156,10 +156,10 @@ module _ (w : List ℕ) (s i : ℕ) (aim : Aim) where
 -- ---- a step along the path, from the leaf upward
 
 pub entry-other : (k v : ℕ) → step.Entry k v ≡ step.End → ⊥
-entry-other k v e = let z : _≡_ {A = ℕ} 0 1 = cc in omega arith
+entry-other k v e = never (cc)
 
 pub unsound-other : step.Unsound ≡ step.End → ⊥
-unsound-other e = let z : _≡_ {A = ℕ} 0 1 = cc in omega arith
+unsound-other e = never (cc)
 
 -- the path is still as it was, and what hangs under its first i pages is at its end
 pub record Along (over : ℕ → List Entry → Option Entry) (to : Option Entry → ℕ → ℕ) (w ps₀ ss₀ ps ss : List ℕ) (i : ℕ) : Type 0 where

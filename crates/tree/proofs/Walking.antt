@@ -16,12 +16,12 @@ use Rattle.model.specs.Layout.{least, firstWord, pagesIn}
 use Rattle.model.specs.Tree.{Entry, entry, noEntry}
 use Rattle.model.specs.Page.{pageOf, countOf, childIn, entryIn, entriesOf, childrenOf}
 use Rattle.lend.specs.Pages.{most, Inside}
-use Rattle.tree.specs.declared.check.Tally.the-variants as tally
 use Rattle.tree.specs.declared.check.Tally.{Tally}
+use Rattle.tree.specs.declared.check.Tally.the-variants as tally
 use Rattle.tree.specs.declared.search.Below.the-variants as below
 use Rattle.tree.specs.Search.{belowOf}
 use Rattle.tree.specs.Check.{standTests, keyRises, valueFits, entryTests, overEntry, overEntryAt, inTurn, overTree, Walks}
-use Rattle.model.proofs.Cases.{either, either-lt}
+use Rattle.model.proofs.Cases.{either, either-lt, never}
 use Rattle.model.proofs.Lists.{getD-tab, every-true}
 use Rattle.model.proofs.Read.{length-own, length-children}
 use Rattle.tree.proofs.Meeting.{turn-stop}
@@ -42,7 +42,7 @@ module _ (w : List ℕ) (p i n : ℕ) where
       (λ l. let one = rw (lt-ltb i n l) at e in
       either (every (entryTests w (entryIn most (pageOf w p) i) b k))
       (λ y. let of = rw y at one in let pages : a₁ ≡ a = cc in let more : b₁ ≡ b + 1 = cc in (pages, omega arith, λ m. absurd (omega arith)))
-      (λ o. let of = rw o at one in let z : _≡_ {A = ℕ} 0 1 = cc in absurd (omega arith)))
+      (λ o. let of = rw o at one in never (cc)))
       (λ l. let of = rw (le-ltb i n l) at e in let pages : a₁ ≡ a = cc in let same : b₁ ≡ b = cc in (pages, omega arith, λ m. same))
 
   module _ (a b k : ℕ) where
@@ -164,8 +164,8 @@ module _ (w : List ℕ) (p h low pages count last : ℕ) where
       (λ y. let e₁ = rw y at e in
       either (ltb (child w p i) (pagesIn (length w)))
       (λ z. let e₂ = rw z at e₁ in let here : c ≡ child w p i = cc in let inside = ltb-true (child w p i) (pagesIn (length w)) z in (here, omega arith))
-      (λ z. let e₂ = rw z at e₁ in let bad : _≡_ {A = ℕ} 0 1 = cc in absurd (omega arith)))
-      (λ y. let e₁ = rw y at e in let bad : _≡_ {A = ℕ} 0 1 = cc in absurd (omega arith))
+      (λ z. let e₂ = rw z at e₁ in never (cc)))
+      (λ y. let e₁ = rw y at e in never (cc))
 
   pub child-exact : (i c a b k : ℕ) (r : Tally) → 0 < h → c ≡ child w p i → Walks w c (h - 1) least a b k r → f (child w p i) (tally.Of a b k) ≡ r
   child-exact i c a b k r l e x =
@@ -217,7 +217,7 @@ module _ (w : List ℕ) (p h low pages count last : ℕ) where
         out =
             let e₁ = rw (le-leb i most (omega arith)) at e in
             either (ltb (child w p i) (pagesIn (length w)))
-            (λ y. let e₂ = rw y at e₁ in let bad : _≡_ {A = ℕ} 0 1 = cc in absurd (omega arith))
+            (λ y. let e₂ = rw y at e₁ in never (cc))
             (λ y. y)
 
         outside : (h : ℕ) → 0 < h → overTree w h (child w p i) least (tally.Of a b k) ≡ tally.Broken

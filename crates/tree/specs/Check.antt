@@ -16,8 +16,8 @@ use Rattle.model.specs.Page.{pageOf, countOf, heightOf, entryIn, entriesOf, chi
 use Rattle.model.specs.Entries.{has}
 use Rattle.model.specs.Pool.{wholeOf}
 use Rattle.lend.specs.Pages.{most}
-use Rattle.tree.specs.declared.check.Tally.the-variants as tally
 use Rattle.tree.specs.declared.check.Tally.{Tally}
+use Rattle.tree.specs.declared.check.Tally.the-variants as tally
 use Rattle.tree.specs.Sits.{Sits}
 
 -- ---- one page

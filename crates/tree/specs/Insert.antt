@@ -25,10 +25,10 @@ use Rattle.pagemap.specs.Lowest.{freeIn, firstOf}
 use Rattle.page.specs.Node.{alone, wider}
 use Rattle.lend.specs.Pages.{most, keeps, OnlyPages, nodeIn, Becomes}
 use Rattle.lend.specs.Touches.{Touches}
-use Rattle.tree.specs.declared.insert.Inserted.the-variants as inserted
 use Rattle.tree.specs.declared.insert.Inserted.{Inserted}
-use Rattle.tree.specs.declared.insert.Up.the-variants as up
+use Rattle.tree.specs.declared.insert.Inserted.the-variants as inserted
 use Rattle.tree.specs.declared.insert.Up.{Up}
+use Rattle.tree.specs.declared.insert.Up.the-variants as up
 use Rattle.tree.specs.Sits.{PathOf, Sits, AtGap}
 
 -- the free pages by the map's words, lowest first

@@ -20,17 +20,17 @@ use Rattle.model.specs.Remove.{planAt, removeAt, freedAt, remove}
 use Rattle.model.specs.Pool.{poolOf, gapBy, withWhole}
 use Rattle.model.specs.Written.{Written}
 use Rattle.pagemap.specs.Bits.{clearBit}
-use Rattle.page.specs.declared.Change.the-variants as change
 use Rattle.page.specs.declared.Change.{Change}
+use Rattle.page.specs.declared.Change.the-variants as change
 use Rattle.page.specs.Node.{less, instead}
 use Rattle.lend.specs.Pages.{most, OnlyPages, nodeIn, Becomes, glued, canGive, canGet, canJoin, MovesIn}
 use Rattle.lend.specs.Touches.{Touches}
-use Rattle.tree.specs.declared.remove.Gone.the-variants as gone
 use Rattle.tree.specs.declared.remove.Gone.{Gone}
-use Rattle.tree.specs.declared.remove.Mending.the-variants as mending
+use Rattle.tree.specs.declared.remove.Gone.the-variants as gone
 use Rattle.tree.specs.declared.remove.Mending.{Mending}
-use Rattle.tree.specs.declared.search.Below.the-variants as below
+use Rattle.tree.specs.declared.remove.Mending.the-variants as mending
 use Rattle.tree.specs.declared.search.Below.{Below}
+use Rattle.tree.specs.declared.search.Below.the-variants as below
 use Rattle.tree.specs.Sits.{PathOf, Sits, AtEntry}
 use Rattle.tree.specs.Search.{belowOf}
 use Rattle.tree.specs.Insert.{Marked, Rooted}

@@ -17,18 +17,18 @@ use Rattle.model.specs.Gap.{Found, seekPages, seekSlots, find}
 use Rattle.model.specs.Pool.{heldBy, poolOf}
 use Rattle.model.specs.Sound.{Sound}
 use Rattle.model.specs.MapCalls.{pagesRead}
-use Rattle.page.specs.declared.Place.the-variants as place
 use Rattle.page.specs.declared.Place.{Place}
+use Rattle.page.specs.declared.Place.the-variants as place
 use Rattle.page.specs.Page.{counted, placeOf}
 use Rattle.lend.specs.Pages.{most}
-use Rattle.tree.specs.declared.search.Aim.the-variants.{Before, After, Start, End}
 use Rattle.tree.specs.declared.search.Aim.{Aim}
-use Rattle.tree.specs.declared.search.Below.the-variants as below
+use Rattle.tree.specs.declared.search.Aim.the-variants.{Before, After, Start, End}
 use Rattle.tree.specs.declared.search.Below.{Below}
-use Rattle.tree.specs.declared.search.Got.the-variants as got
+use Rattle.tree.specs.declared.search.Below.the-variants as below
 use Rattle.tree.specs.declared.search.Got.{Got}
-use Rattle.tree.specs.declared.search.Slot.the-variants as slot
+use Rattle.tree.specs.declared.search.Got.the-variants as got
 use Rattle.tree.specs.declared.search.Slot.{Slot}
+use Rattle.tree.specs.declared.search.Slot.the-variants as slot
 use Rattle.tree.specs.Sits.{PathIn, PathOf, Sits, From}
 
 -- ---- one page

@@ -33,8 +33,8 @@ pub record Sits (w : List ℕ) (low h : ℕ) (t : Tree h) : Type 0 where
   pub inside : (q : ℕ) → 0 < times q h t → q < pagesIn (length w)
 
 -- for each tree that sits there with rising keys, and each gap of it that has this path
-abbrev pub Along : List ℕ → List ℕ → List ℕ → ((h : ℕ) → Tree h → ℕ → Type 0) → Type 0
-Along w ps ss P = (low h : ℕ) (t : Tree h) (g : ℕ) → Sits w low h t → Rising (entries h t) → g ≤ size h t → PathOf h t g ps ss → P h t g
+abbrev pub OnPath : List ℕ → List ℕ → List ℕ → ((h : ℕ) → Tree h → ℕ → Type 0) → Type 0
+OnPath w ps ss P = (low h : ℕ) (t : Tree h) (g : ℕ) → Sits w low h t → Rising (entries h t) → g ≤ size h t → PathOf h t g ps ss → P h t g
 
 -- for each such tree of n levels whose root is page p
 abbrev pub From : List ℕ → ℕ → ℕ → ((h : ℕ) → Tree (suc h) → Type 0) → Type 0

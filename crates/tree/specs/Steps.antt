@@ -16,11 +16,11 @@ use Rattle.page.specs.Page.{holdsAt}
 use Rattle.lend.specs.Pages.{most, Inside}
 use Rattle.tree.specs.declared.search.Aim.{Aim}
 use Rattle.tree.specs.declared.search.Below.the-variants as below
-use Rattle.tree.specs.declared.steps.Spot.the-variants as spot
 use Rattle.tree.specs.declared.steps.Spot.{Spot}
-use Rattle.tree.specs.declared.steps.Step.the-variants as step
+use Rattle.tree.specs.declared.steps.Spot.the-variants as spot
 use Rattle.tree.specs.declared.steps.Step.{Step}
-use Rattle.tree.specs.Sits.{PathIn, PathOf, Sits, Along}
+use Rattle.tree.specs.declared.steps.Step.the-variants as step
+use Rattle.tree.specs.Sits.{PathIn, PathOf, Sits, OnPath}
 use Rattle.tree.specs.Search.{belowOf, aimed}
 
 -- the page and the slot of entry g
@@ -85,8 +85,8 @@ pub record Steps (over : ℕ → List Entry → Option Entry) (to : Option Entry
   pub slots : length ss′ ≡ length ss
   pub inside : (k v : ℕ) → r ≡ step.Entry k v → PathIn w ps′ ss′
   pub still : r ≡ step.End → (ps′ ≡ ps) × (ss′ ≡ ss)
-  pub exact : Along w ps ss (λ h t g. r ≡ stepBy (over g (entries h t)))
-  pub path : Along w ps ss (λ h t g. PathOf h t (to (over g (entries h t)) g) ps′ ss′)
+  pub exact : OnPath w ps ss (λ h t g. r ≡ stepBy (over g (entries h t)))
+  pub path : OnPath w ps ss (λ h t g. PathOf h t (to (over g (entries h t)) g) ps′ ss′)
 
 -- ---- a step at one page
 

@@ -6,7 +6,8 @@ use Rattle.model.specs.MapCalls.{changeTests, mapInsert}
 use Rattle.map.specs.Answers.{earlyNumber}
 use Rattle.model.proofs.Keeps.{keeps-map-insert}
 use Rattle.model.proofs.Meets.{passes-changing}
-use Rattle.map.proofs.Calling.{meets-refused, meets-unsound, insert-new, insert-over, insert-full}
+use Rattle.model.proofs.Meets.{meets-unsound}
+use Rattle.map.proofs.Calling.{meets-refused, insert-new, insert-over, insert-full}
 use Rattle.map.proofs.insert.Statement.{statement}
 use Rattle.map.proofs.insert.Tie as tie
 

@@ -6,7 +6,8 @@ use Rattle.model.specs.MapCalls.{changeTests, mapRemove}
 use Rattle.map.specs.Answers.{earlyNumber}
 use Rattle.model.proofs.Keeps.{keeps-map-remove}
 use Rattle.model.proofs.Meets.{passes-changing}
-use Rattle.map.proofs.Calling.{meets-refused, meets-unsound, remove-value, remove-absent}
+use Rattle.model.proofs.Meets.{meets-unsound}
+use Rattle.map.proofs.Calling.{meets-refused, remove-value, remove-absent}
 use Rattle.map.proofs.remove.Statement.{statement}
 use Rattle.map.proofs.remove.Tie as tie
 

@@ -6,7 +6,8 @@ use Rattle.model.specs.MapCalls.{changeTests, mapReplace}
 use Rattle.map.specs.Answers.{earlyNumber}
 use Rattle.model.proofs.Keeps.{keeps-map-replace}
 use Rattle.model.proofs.Meets.{passes-changing}
-use Rattle.map.proofs.Calling.{meets-refused, meets-unsound, replace-over, replace-absent}
+use Rattle.model.proofs.Meets.{meets-unsound}
+use Rattle.map.proofs.Calling.{meets-refused, replace-over, replace-absent}
 use Rattle.map.proofs.replace.Statement.{statement}
 use Rattle.map.proofs.replace.Tie as tie
 

@@ -6,8 +6,9 @@ use native.Mathlib.Omega.{arith}
 use denote.Enum.Declared.{tagOf}
 use borrow.Author.Needs.{needs}
 use borrow.Author.Tests.{not-true, not-false}
-use Rattle.tree.specs.declared.steps.Step.the-variants as step
 use Rattle.tree.specs.declared.steps.Step.{Step}
+use Rattle.tree.specs.declared.steps.Step.the-variants as step
+use Rattle.model.proofs.Cases.{never}
 use Rattle.tree.proofs.steps.Step.{the-type}
 use Rattle.map.proofs.Listing.{Ran, ran-none, ran-more, ran-end, ran-behind, ran-full}
 use Rattle.map.proofs.list.run.Statement.{statement}
@@ -46,7 +47,7 @@ same-length-4 c = search needs
 -- in the else of a `let`, only the tag is known: it is one of the others
 no-entry : (r : Step) → (tagOf the-type r ≡ 1) ⊎ (tagOf the-type r ≡ 2) → (k v : ℕ) → r ≡ step.Entry k v → ⊥
 no-entry r t k v e =
-    ⊎-elim (λ q. let z : _≡_ {A = ℕ} 0 1 = sym (ap (tagOf the-type) e) ∙ q in omega arith)
+    ⊎-elim (λ q. never (sym (ap (tagOf the-type) e) ∙ q))
     (λ q. let z : _≡_ {A = ℕ} 0 2 = sym (ap (tagOf the-type) e) ∙ q in omega arith) t
 
 returns : tie.Need-returns Inv-loop μ-loop

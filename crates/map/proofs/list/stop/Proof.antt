@@ -1,17 +1,17 @@
 -- `list::stop` meets its contract: step by step. Assumes nothing.
-use mathlib.Core.Path.{_≡_, refl}
+use mathlib.Core.Path.{refl}
 use Prim.Native.Nat.{ℕ}
-use native.Mathlib.Omega.{arith}
 use borrow.Author.Needs.{needs}
 use Rattle.tree.specs.declared.steps.Step.{Step}
 use Rattle.map.specs.declared.list.Listed.the-variants as listed
 use Rattle.map.specs.List.{Stops}
+use Rattle.model.proofs.Cases.{never}
 use Rattle.map.proofs.list.stop.Statement.{statement}
 use Rattle.map.proofs.list.stop.Tie as tie
 
 -- what was written may be told, whatever the step answers
 wrote : (s : Step) (n : ℕ) → Stops s n (listed.Wrote n)
-wrote s n = record { wrote = λ e. refl; stops = λ e q. let z : _≡_ {A = ℕ} 0 1 = cc in absurd (omega arith) }
+wrote s n = record { wrote = λ e. refl; stops = λ e q. never (cc) }
 
 returns : tie.Need-returns
 returns c = wrote _ _
@@ -27,7 +27,7 @@ enum-told-3 c = search needs
 
 returns-2 : tie.Need-returns-2
 returns-2 c = record {
-  wrote = λ e. let lost = c .enum-told .given .1 in let z : _≡_ {A = ℕ} 0 1 = cc in absurd (omega arith);
+  wrote = λ e. let lost = c .enum-told .given .1 in never (cc);
   stops = λ e q. (cc, c .before .before .if1 .left);
 }
 

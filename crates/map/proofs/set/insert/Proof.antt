@@ -7,7 +7,8 @@ use Rattle.model.specs.SetCalls.{setInsert}
 use Rattle.map.specs.Answers.{earlyNumber}
 use Rattle.model.proofs.Keeps.{keeps-set-insert}
 use Rattle.model.proofs.Meets.{passes-changing}
-use Rattle.map.proofs.Calling.{meets-refused, meets-unsound, set-insert-new, set-insert-present, insert-full}
+use Rattle.model.proofs.Meets.{meets-unsound}
+use Rattle.map.proofs.Calling.{meets-refused, set-insert-new, set-insert-present, insert-full}
 use Rattle.map.proofs.set.insert.Statement.{statement}
 use Rattle.map.proofs.set.insert.Tie as tie
 

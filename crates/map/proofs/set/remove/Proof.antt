@@ -7,7 +7,8 @@ use Rattle.model.specs.SetCalls.{setRemove}
 use Rattle.map.specs.Answers.{earlyNumber}
 use Rattle.model.proofs.Keeps.{keeps-set-remove}
 use Rattle.model.proofs.Meets.{passes-changing}
-use Rattle.map.proofs.Calling.{meets-refused, meets-unsound, value-there, value-none, remove-value, remove-absent}
+use Rattle.model.proofs.Meets.{meets-unsound}
+use Rattle.map.proofs.Calling.{meets-refused, value-there, value-none, remove-value, remove-absent}
 use Rattle.map.proofs.set.remove.Statement.{statement}
 use Rattle.map.proofs.set.remove.Tie as tie
 

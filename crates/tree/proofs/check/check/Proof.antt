@@ -6,8 +6,8 @@ use native.Mathlib.Omega.{arith}
 use borrow.Author.Needs.{needs}
 use borrow.Author.Tests.{not-true, not-false}
 use Rattle.model.specs.Head.{rootWord, levelsWord, headed}
-use Rattle.tree.specs.declared.check.Tally.the-variants as tally
 use Rattle.tree.specs.declared.check.Tally.{Tally}
+use Rattle.tree.specs.declared.check.Tally.the-variants as tally
 use Rattle.tree.specs.Check.{overTree, Walks}
 use Rattle.model.proofs.Head.{head-facts}
 use Rattle.lend.proofs.Fitting.{head-long}

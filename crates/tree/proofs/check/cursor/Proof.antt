@@ -6,9 +6,10 @@ use native.Mathlib.Omega.{arith}
 use denote.Enum.Declared.{tagOf}
 use borrow.Author.Needs.{needs}
 use Rattle.model.specs.Head.{rootWord, levelsWord, keyWord}
-use Rattle.tree.specs.declared.search.Got.the-variants as got
 use Rattle.tree.specs.declared.search.Got.{Got}
+use Rattle.tree.specs.declared.search.Got.the-variants as got
 use Rattle.tree.specs.Search.{GetsBelow}
+use Rattle.model.proofs.Cases.{never}
 use Rattle.lend.proofs.Fitting.{head-long}
 use Rattle.tree.proofs.Checking.{root-there, cursor-start, cursor-closed, cursor-empty, cursor-lost, cursor-found}
 use Rattle.tree.proofs.search.Got.{the-type}
@@ -75,7 +76,7 @@ enum-told c = search needs
 -- in the else of a `let`, only the tag is known: it is one of the others
 no-value : (r : Got) → (tagOf the-type r ≡ 1) ⊎ (tagOf the-type r ≡ 2) → (v m : ℕ) → r ≡ got.Value v m → ⊥
 no-value r t v m e =
-    ⊎-elim (λ q. let z : _≡_ {A = ℕ} 0 1 = sym (ap (tagOf the-type) e) ∙ q in omega arith)
+    ⊎-elim (λ q. never (sym (ap (tagOf the-type) e) ∙ q))
     (λ q. let z : _≡_ {A = ℕ} 0 2 = sym (ap (tagOf the-type) e) ∙ q in omega arith) t
 
 returns-4 : tie.Need-returns-4

@@ -8,8 +8,8 @@ use borrow.Author.Needs.{needs}
 use Rattle.model.specs.Tree.{entry}
 use Rattle.lend.specs.Pages.{most, Inside}
 use Rattle.lend.specs.Touches.{Sized}
-use Rattle.tree.specs.declared.insert.Up.the-variants as up
 use Rattle.tree.specs.declared.insert.Up.{Up}
+use Rattle.tree.specs.declared.insert.Up.the-variants as up
 use Rattle.tree.specs.Insert.{InsertsBelow}
 use Rattle.tree.proofs.Paths.{path-at}
 use Rattle.tree.proofs.Grafting.{below-none, along-put, along-whole}

@@ -7,8 +7,8 @@ use borrow.Author.Needs.{needs}
 use Rattle.model.specs.Entries as model
 use Rattle.model.specs.Entries.{forth}
 use Rattle.lend.specs.Pages.{most}
-use Rattle.tree.specs.declared.steps.Step.the-variants as step
 use Rattle.tree.specs.declared.steps.Step.{Step}
+use Rattle.tree.specs.declared.steps.Step.the-variants as step
 use Rattle.tree.specs.Steps.{Forth}
 use Rattle.tree.proofs.Paths.{fromBack, path-at, from-drop}
 use Rattle.tree.proofs.Stepping.{forward}
