@@ -2,18 +2,18 @@
 -- Assumes nothing.
 use mathlib.Core.Path.{_≡_, refl, sym, ap, _∙_}
 use mathlib.Core.Bool.{Bool, true, false}
-use mathlib.Core.List.{List, [], _∷_, _++_, append-assoc, append-nil}
+use mathlib.Core.List.{List, [], _∷_}
 use Prim.Native.Nat.{ℕ, zero, suc, _-_, _≤_, _<_}
 use native.Mathlib.Omega.{arith}
 use lib.Dec.{leb}
-use lib.ListN.{length, take, drop, getD, length-append, take-append-drop, List·getD-append}
+use lib.ListN.{length, getD}
 use borrow.Author.Tests.{le-leb}
 use Rattle.model.specs.Lists.{every}
 use Rattle.model.specs.Layout.{least}
 use Rattle.model.specs.Tree.{Tree, size, Shaped}
 use Rattle.model.specs.Gap.{slotAt, restAt, child, childAt, gapPages, gapSlots}
 use Rattle.lend.specs.Pages.{most}
-use Rattle.tree.specs.Sits.{PathIn, PathOf, Sits}
+use Rattle.tree.specs.Sits.{Sits}
 use Rattle.tree.specs.Remove.{countBelow, Beside, CanRemove}
 use Rattle.tree.proofs.Saying.{root-count}
 use Rattle.tree.proofs.Sitting.{sits-most, sits-child, sits-below, sits-slot, sits-rest}
@@ -63,22 +63,11 @@ gap-upper w low (suc (suc h)) t g s b (suc j) l =
 pub upper-beside : (w : List ℕ) (p s : ℕ) (r : Bool) → Upper w p s → Beside w p s r → r ≡ true
 upper-beside w p s r a c = c (a .low) (a .height) (a .tree) (a .sits) (a .page) (a .slot)
 
-module _ (w ps ss : List ℕ) (path : PathIn w ps ss) where
+module _ (w ps ss : List ℕ) where
   pub can-refuse : (j : ℕ) → suc j < length ps → Beside w (getD ps j 0) (getD ss j 0) false → CanRemove w ps ss false
-  can-refuse j b c low h t g ps′ ss′ s fits p =
-      let long : suc j < length (gapPages h t g) = omega (arith, ap length (p .pages), length-append ps ps′) in
-      let at-page : getD (gapPages h t g) j 0 ≡ getD ps j 0 = ap (λ (l : List ℕ). getD l j 0) (sym (p .pages)) ∙ List·getD-append ps ps′ 0 j (omega arith) in
-      let at-slot : getD (gapSlots h t g) j 0 ≡ getD ss j 0 = ap (λ (l : List ℕ). getD l j 0) (sym (p .slots)) ∙ List·getD-append ss ss′ 0 j (omega (arith, path .even)) in
+  can-refuse j b c low h t g s fits p =
+      let long : suc j < length (gapPages h t g) = omega (arith, ap length (p .pages)) in
+      let at-page : getD (gapPages h t g) j 0 ≡ getD ps j 0 = ap (λ (l : List ℕ). getD l j 0) (sym (p .pages)) in
+      let at-slot : getD (gapSlots h t g) j 0 ≡ getD ss j 0 = ap (λ (l : List ℕ). getD l j 0) (sym (p .slots)) in
       let upper : Upper w (getD ps j 0) (getD ss j 0) = rw (at-page, at-slot) at (gap-upper w low h t g s fits j long) in
       upper-beside w (getD ps j 0) (getD ss j 0) false upper c
-
-  pub can-above : (k : ℕ) (r : Bool) → CanRemove w (take k ps) (take k ss) r → CanRemove w ps ss r
-  can-above k r c low h t g ps′ ss′ s fits p =
-      c low h t g (drop k ps ++ ps′) (drop k ss ++ ss′) s fits record {
-        pages = sym (append-assoc (take k ps) (drop k ps) ps′) ∙ ap (λ (l : List ℕ). l ++ ps′) (take-append-drop k ps) ∙ p .pages;
-        slots = sym (append-assoc (take k ss) (drop k ss) ss′) ∙ ap (λ (l : List ℕ). l ++ ss′) (take-append-drop k ss) ∙ p .slots;
-      }
-
--- of a whole path
-pub can-remove-path : (w ps ss : List ℕ) (r : Bool) → CanRemove w ps ss r → (low h : ℕ) (t : Tree h) (g : ℕ) → Sits w low h t → g ≤ size h t → PathOf h t g ps ss → r ≡ true
-can-remove-path w ps ss r c low h t g s b p = c low h t g [] [] s b record { pages = append-nil ps ∙ p .pages; slots = append-nil ss ∙ p .slots }

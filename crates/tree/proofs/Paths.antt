@@ -12,7 +12,7 @@ use Rattle.model.specs.Gap.{slotAt, restAt, childAt, gapPages, gapSlots}
 use Rattle.page.specs.Runs.{part, put}
 use Rattle.lend.specs.Pages.{most, Inside}
 use Rattle.tree.specs.Sits.{PathIn, PathOf}
-use Rattle.model.proofs.Lists.{all-at, all-take, all-drop}
+use Rattle.model.proofs.Lists.{all-at, all-drop}
 
 module _ {A : Type 0} where
   -- from place i on, as it is lent
@@ -74,13 +74,6 @@ behind-even x ps ss e = simp (length-take, length-drop, length-set) (omega arith
 module _ (w ps ss : List ℕ) (path : PathIn w ps ss) where
   pub path-at : (j : ℕ) → j < length ps → Inside (getD ps j 0) w × (getD ss j 0 ≤ most)
   path-at j b = (all-at (λ p. Inside p w) ps j 0 b (path .inside), all-at (λ s. s ≤ most) ss j 0 (omega (arith, path .even)) (path .slots))
-
-  pub path-front : (k : ℕ) → PathIn w (take k ps) (take k ss)
-  path-front k = record {
-    even = simp length-take (omega (arith, path .even));
-    inside = all-take (λ p. Inside p w) k ps (path .inside);
-    slots = all-take (λ s. s ≤ most) k ss (path .slots);
-  }
 
   pub path-from : (i : ℕ) → PathIn w (from i ps) (from i ss)
   path-from i = rw (from-drop i ps, from-drop i ss) (record {

@@ -43,7 +43,6 @@ use Rattle.tree.proofs.Saying.{root-count, child-found}
 use Rattle.tree.proofs.Sitting.{sound-sits}
 use Rattle.tree.proofs.Paths.{first-page}
 use Rattle.tree.proofs.Heads.{head-page, head-stored}
-use Rattle.tree.proofs.Neighbours.{can-remove-path}
 use Rattle.tree.proofs.Leaving.{head-word, key-stays, Carries, carries-leaves, leaves-written}
 
 -- ---- a root left without entries
@@ -150,7 +149,7 @@ pub removes-refused : (w ps ss : List ℕ) (r : Bool) → CanRemove w ps ss r �
 unfolding held
 removes-refused w ps ss r can cannot =
     removes-none w ps ss
-    (λ g sound b path. contrary (can-remove-path w ps ss r can 1 (poolOf w .whole .levels) (poolOf w .whole .tree) g (sound-sits w sound) (omega arith) path) cannot)
+    (λ g sound b path. contrary (can 1 (poolOf w .whole .levels) (poolOf w .whole .tree) g (sound-sits w sound) (omega arith) path) cannot)
 
 pub removes-done : (w ps ss w₁ w₂ : List ℕ) (u : Gone) → headed w ≡ true → length ps ≡ levelsWord w → RemovesBelow w ps ss w₁ u
     → Lowers (getD ps 0 0) (length ps) w₁ w₂ → Removes w ps ss (set w₂ 2 (word w₂ 2 - 1)) change.Done

@@ -151,9 +151,9 @@ pub record RemovesBelow (w ps ss w′ : List ℕ) (r : Gone) : Type 0 where
 abbrev pub Beside : List ℕ → ℕ → ℕ → Bool → Type 0
 Beside w u i r = (low h : ℕ) (t : Tree (suc (suc h))) → Sits w low (suc (suc h)) t → t .page ≡ u → i ≤ length (t .own) → r ≡ true
 
--- all that a removal reads is sound; of a path's front too, since the test goes from the path's end up
+-- all that a removal reads is sound
 abbrev pub CanRemove : List ℕ → List ℕ → List ℕ → Bool → Type 0
-CanRemove w ps ss r = (low h : ℕ) (t : Tree h) (g : ℕ) (ps′ ss′ : List ℕ) → Sits w low h t → g ≤ size h t → PathOf h t g (ps ++ ps′) (ss ++ ss′) → r ≡ true
+CanRemove w ps ss r = (low h : ℕ) (t : Tree h) (g : ℕ) → Sits w low h t → g ≤ size h t → PathOf h t g ps ss → r ≡ true
 
 -- the root is freed: words 3 and 4 become `root` and `levels`, its bit is cleared, and no page changes
 pub record Lowered (root levels old : ℕ) (w w′ : List ℕ) : Type 0 where

@@ -222,23 +222,23 @@ fn beside(pool: &[u64], u: usize, i: usize) -> bool
     true
 }
 
-// Whether all that a removal reads is sound.
+// Whether all that a removal reads is sound: the neighbours of each page that may be left short, from the leaf upward.
 fn can_remove(pool: &[u64], pages: &[usize], slots: &[usize]) -> bool
     requires { ⌜ firstWord 0 ≤ length (now pool) ⌝ }
     requires { ⌜ PathIn (now pool) (now pages) (now slots) ⌝ }
     ensures { λ r. ⌜ CanRemove (now (pool .entry)) (now (pages .entry)) (now (slots .entry)) r ⌝ }
 {
-    let n = pages.len();
-    if n <= 1 {
-        return true;
+    let mut i = pages.len();
+    while 1 < i {
+        i -= 1;
+        if LEAST < pages::count(pool, pages[i]) {
+            return true;
+        }
+        if !beside(pool, pages[i - 1], slots[i - 1]) {
+            return false;
+        }
     }
-    if LEAST < pages::count(pool, pages[n - 1]) {
-        return true;
-    }
-    if !beside(pool, pages[n - 2], slots[n - 2]) {
-        return false;
-    }
-    can_remove(pool, &pages[0..n - 1], &slots[0..n - 1])
+    true
 }
 
 // A root left without entries is freed.
