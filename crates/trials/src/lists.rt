@@ -1,13 +1,6 @@
 // Lists held against the table: between two bounds, into slices of lengths of their own, which entries come, how many, and that no word past them is changed.
 ghost use Prim.Native.Nat.{_≤_};
 use crate::random;
-use crate::table::PLACES;
-use crate::table::UNTOUCHED;
-use crate::table::after;
-use crate::table::held;
-use crate::table::key_of;
-use crate::table::place_from;
-use crate::table::value_at;
 use crate::tally::FIGURES;
 use crate::tally::LISTED;
 use crate::tally::WRONG;
@@ -15,6 +8,13 @@ use crate::tally::add;
 use crate::tally::count;
 use crate::tally::expect;
 use map::list::Listed;
+use table::PLACES;
+use table::UNTOUCHED;
+use table::after;
+use table::held;
+use table::key_of;
+use table::place_from;
+use table::value_at;
 
 // Two bounds: their kinds, and the places of their keys.
 pub struct Bounds {

@@ -1,22 +1,19 @@
-// Trials of map and set: thousands of mixed calls on pools of several sizes, each held against a table with a place for every key, which is an ordered map by itself; and fixed corners.
+// Trials of map and set: thousands of mixed calls on pools of several sizes, each held against a table with a place for every key, which is an ordered map by itself.
 // Every answer, lists between bounds, the whole list forth and back and the gaps of a key are compared, and the pool is checked, counted and copied on the way.
 pub mod compare;
-pub mod corners;
 pub mod lists;
 pub mod map_trial;
-pub mod numbers;
 pub mod random;
 pub mod reads;
 pub mod set_trial;
-pub mod table;
 pub mod tally;
 pub mod trial;
 
-use crate::table::UNTOUCHED;
 use crate::trial::WORDS;
 use crate::trial::trial_in;
 use map::refusal::MAP;
 use map::refusal::SET;
+use table::UNTOUCHED;
 
 // Each trial makes its pool in the words that the one before it left.
 fn main() {
@@ -30,5 +27,4 @@ fn main() {
     trial_in(&mut words, 2176, MAP, 8000, 3000);
     trial_in(&mut words, 8192, SET, 6000, 4096);
     trial_in(&mut words, 8192, MAP, 8000, 4096);
-    corners::corners();
 }

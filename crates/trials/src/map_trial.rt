@@ -5,9 +5,6 @@ use crate::random;
 use crate::reads::contained;
 use crate::reads::read_all;
 use crate::reads::read_some;
-use crate::table::key_of;
-use crate::table::put;
-use crate::table::value_at;
 use crate::tally::ABSENT;
 use crate::tally::FIGURES;
 use crate::tally::NEW;
@@ -21,6 +18,9 @@ use map::Got;
 use map::Inserted;
 use map::Removed;
 use map::Replaced;
+use table::key_of;
+use table::put;
+use table::value_at;
 
 fn insert(
     pool: &mut [u64],

@@ -4,9 +4,6 @@ use crate::random;
 use crate::reads::contained;
 use crate::reads::read_all;
 use crate::reads::read_some;
-use crate::table::key_of;
-use crate::table::put;
-use crate::table::value_at;
 use crate::tally::ABSENT;
 use crate::tally::FIGURES;
 use crate::tally::NEW;
@@ -19,6 +16,9 @@ use crate::tally::refused;
 use map::set::Got;
 use map::set::Inserted;
 use map::set::Removed;
+use table::key_of;
+use table::put;
+use table::value_at;
 
 fn insert(pool: &mut [u64], table: &mut [u64], place: usize, tally: &mut [u64; FIGURES]) {
     let had = value_at(table, place);

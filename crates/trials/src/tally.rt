@@ -4,6 +4,7 @@ use map::refusal::Refusal;
 use map::refusal::SET;
 use model::FIRST_PAGE;
 use model::LEVELS;
+use table::say;
 
 // Keys that were new, and that were written over or replaced; refusals for room; keys removed, and found absent by a removal or a replacement; the pages that searches read; the entries
 // that lists wrote.
@@ -55,11 +56,6 @@ pub fn refused(tally: &mut [u64; FIGURES], why: Refusal) {
         Refusal::Lengths => count(tally, WRONG),
         Refusal::Unsound => count(tally, WRONG),
     }
-}
-
-pub fn say(text: &[u8], number: u64) {
-    io::write_all(STDOUT_FILENO, text);
-    io::print_decimal(STDOUT_FILENO, number);
 }
 
 pub fn report(pool: &[u64], kind: u64, calls: u64, tally: &[u64; FIGURES]) {

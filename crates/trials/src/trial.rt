@@ -4,9 +4,6 @@ use crate::lists;
 use crate::map_trial;
 use crate::random;
 use crate::set_trial;
-use crate::table::PLACES;
-use crate::table::UNTOUCHED;
-use crate::table::held;
 use crate::tally::FIGURES;
 use crate::tally::expect;
 use crate::tally::report;
@@ -15,6 +12,9 @@ use map::pool::Checked;
 use map::pool::Counted;
 use map::pool::Empty;
 use map::refusal::MAP;
+use table::PLACES;
+use table::UNTOUCHED;
+use table::held;
 
 // Words of the longest pool of the trials.
 pub const WORDS: usize = 8192;

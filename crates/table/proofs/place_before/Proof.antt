@@ -1,8 +1,8 @@
--- `table::place_before` ends, at `place` or before. Assumes nothing.
+-- `place_before` ends, at `place` or before. Assumes nothing.
 use Prim.Native.Nat.{_≤_}
 use borrow.Author.Needs.{needs}
-use Rattle.trials.proofs.table.place_before.Statement.{statement}
-use Rattle.trials.proofs.table.place_before.Tie as tie
+use Rattle.table.proofs.place_before.Statement.{statement}
+use Rattle.table.proofs.place_before.Tie as tie
 
 abbrev Inv-loop : tie.InvT-loop
 Inv-loop table place i₀ i = i ≤ place

@@ -1,10 +1,7 @@
-// Fixed corners, a line each: calls by document 01's numbers, 0 where a call is not refused; whether a refusal has changed a word; the last key, one entry, a full pool, and make
+// Corners of map and set, a line each: calls by document 01's numbers, 0 where a call is not refused; whether a refusal has changed a word; the last key, one entry, a full pool, and make
 // during an open cursor.
-use crate::numbers;
-use crate::table::UNTOUCHED;
-use crate::table::put;
-use crate::table::value_at;
-use crate::tally::say;
+pub mod numbers;
+
 use libc::STDOUT_FILENO;
 use map::Got;
 use map::list::Listed;
@@ -15,6 +12,10 @@ use model::COUNT;
 use model::FIRST_PAGE;
 use model::LEVELS;
 use model::OPEN;
+use table::UNTOUCHED;
+use table::put;
+use table::say;
+use table::value_at;
 
 // Words of a pool of one page, and of one of two.
 const ONE: usize = 128;
@@ -274,7 +275,7 @@ fn last_key() {
     write(b"\n");
 }
 
-pub fn corners() {
+fn main() {
     lengths();
     kinds();
     bounds();

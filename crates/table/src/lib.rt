@@ -1,5 +1,7 @@
-// The table: a place for every key, 0 where it has none. An ordered map by itself, for its places are in key order. A place past its end has no entry, and nothing is stored there.
+// What the programs share. The table: a place for every key, 0 where it has none. An ordered map by itself, for its places are in key order. A place past its end has no entry, and
+// nothing is stored there. And words printed with a number.
 ghost use Prim.Native.Nat.{_≤_};
+use libc::STDOUT_FILENO;
 
 // Places of the table.
 pub const PLACES: usize = 4096;
@@ -83,4 +85,9 @@ pub fn is_at(key: u64, value: u64, table: &[u64], place: usize) -> bool {
         return false;
     }
     value == table[place]
+}
+
+pub fn say(text: &[u8], number: u64) {
+    io::write_all(STDOUT_FILENO, text);
+    io::print_decimal(STDOUT_FILENO, number);
 }

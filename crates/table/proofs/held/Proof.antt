@@ -1,8 +1,8 @@
--- `table::held` ends. Assumes nothing.
+-- `held` ends. Assumes nothing.
 use Prim.Native.Nat.{_-_, _≤_}
 use borrow.Author.Needs.{needs}
-use Rattle.trials.proofs.table.held.Statement.{statement}
-use Rattle.trials.proofs.table.held.Tie as tie
+use Rattle.table.proofs.held.Statement.{statement}
+use Rattle.table.proofs.held.Tie as tie
 
 abbrev Inv-loop : tie.InvT-loop
 Inv-loop table first last n₀ i₀ n i = first ≤ i

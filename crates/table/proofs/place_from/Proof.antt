@@ -1,9 +1,9 @@
--- `table::place_from` stays inside the table and ends, at `place` or after. Assumes nothing.
+-- `place_from` stays inside the table and ends, at `place` or after. Assumes nothing.
 use Prim.Native.Nat.{_-_, _≤_}
 use lib.ListN.{length}
 use borrow.Author.Needs.{needs}
-use Rattle.trials.proofs.table.place_from.Statement.{statement}
-use Rattle.trials.proofs.table.place_from.Tie as tie
+use Rattle.table.proofs.place_from.Statement.{statement}
+use Rattle.table.proofs.place_from.Tie as tie
 
 abbrev Inv-loop : tie.InvT-loop
 Inv-loop table place i₀ i = place ≤ i
