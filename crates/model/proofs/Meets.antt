@@ -28,12 +28,12 @@ use Rattle.model.proofs.Written.{sound-written, written-sound, written-
 
 -- ---- the tests of a call, in their two parts
 
-abbrev pub isLate : Test → Bool
-isLate t = cond (eqb (t .number) 6) true (eqb (t .number) 7)
+abbrev pub isLate : ℕ → Bool
+isLate n = cond (eqb n 6) true (eqb n 7)
 
 -- no early test is 6 or 7, and every late one is
 abbrev pub Apart : List Test → List Test → Type 0
-Apart early late = (every (map (λ t. not (isLate t)) early) ≡ true) × (every (map isLate late) ≡ true)
+Apart early late = (every (map (λ t. not (isLate (t .number))) early) ≡ true) × (every (map (λ t. isLate (t .number)) late) ≡ true)
 
 abbrev pub Staged : {A : Type 0} → Call A → Type 0
 Staged c = (w : List ℕ) (p : Pool) → Apart (c .early w) (c .late p)
@@ -60,9 +60,6 @@ module _ (n : ℕ) where
 
 -- ---- the order in the same two parts
 
-abbrev lateNumber : ℕ → Bool
-lateNumber n = cond (eqb n 6) true (eqb n 7)
-
 abbrev earlyOnes : List ℕ
 earlyOnes = 1 ∷ 2 ∷ 3 ∷ 8 ∷ 4 ∷ 5 ∷ 9 ∷ []
 
@@ -79,11 +76,11 @@ first-of-two (zero ∷ ns) ms ts some = absurd (omega arith)
 first-of-two (suc n ∷ ns) ms ts some = either (applies (suc n) ts) (λ y. rw y) (λ z. rw z (first-of-two ns ms ts (some .1)))
 
 module _ (early late : List Test) (apart : Apart early late) where
-  no-early : (n : ℕ) → lateNumber n ≡ true → names n early ≡ false
-  no-early n l = other-sort n (λ m. not (lateNumber m)) early (rw l) (every-true (map (λ t. not (isLate t)) early) (apart .0))
+  no-early : (n : ℕ) → isLate n ≡ true → names n early ≡ false
+  no-early n l = other-sort n (λ m. not (isLate m)) early (rw l) (every-true (map (λ t. not (isLate (t .number))) early) (apart .0))
 
-  no-late : (n : ℕ) → lateNumber n ≡ false → names n late ≡ false
-  no-late n l = other-sort n lateNumber late l (every-true (map isLate late) (apart .1))
+  no-late : (n : ℕ) → isLate n ≡ false → names n late ≡ false
+  no-late n l = other-sort n isLate late l (every-true (map (λ t. isLate (t .number)) late) (apart .1))
 
   both-number : refusal (early ++ late) ≡ orElse (refusal early) (refusal late)
   both-number = first-of-two earlyOnes lateOnes (early ++ late) (omega arith) ∙ simp (unnamed-after, unnamed-before, unnamed, no-early, no-late)
