@@ -45,7 +45,7 @@ use Rattle.model.proofs.Write.{write-same}
 use Rattle.model.proofs.Right.{sound-right}
 use Rattle.model.proofs.Keeps.{Keeps, keeps-reads, keeps-map-insert, keeps-map-replace, keeps-set-insert}
 use Rattle.model.proofs.Written.{sound-written}
-use Rattle.model.proofs.Meets.{Staged, meets-early, meets-answered, meets-stopped, meets-unsound, passes-changing}
+use Rattle.model.proofs.Meets.{Staged, meets-early, meets-answered, meets-stopped, meets-unsound, meets-read, passes-changing}
 use Rattle.map.proofs.Answers.{number-some}
 use Rattle.map.proofs.Placing.{absent-value}
 
@@ -76,7 +76,7 @@ module _ (w : List ℕ) (k : ℕ) where
         rw (y, write-same least (poolOf w .whole) (gapFor k w) (entry k 0) (sound-right w s .formed) (here .0) (ap₂ entry (here .1) zero-there))
 
   -- where it stands it is overwritten
-  overwritten : {p i x old : ℕ} {v : List ℕ} → StandsAt w k p i → Writes p i x w v old → (s : Sound w)
+  pub overwritten : {p i x old : ℕ} {v : List ℕ} → StandsAt w k p i → Writes p i x w v old → (s : Sound w)
       → (member w k ≡ true) × (view w k ≡ some old) × Written v (file (entry k x) (poolOf w))
   unfolding file spotFor
   overwritten {x = x} {v = v} stands writes s =
@@ -202,9 +202,7 @@ seen k p = record { present = has k (heldBy p); read = pagesRead k p }
 
 reads-answered : {A : Type 0} (kind : ℕ) {answer : Pool → A} {w : List ℕ} {a : A} → 0 ≡ refusal (readTests kind w) → (Sound w → a ≡ answer (poolOf w))
     → Meets (reads (readTests kind) answer) w w (answered a)
-reads-answered kind {answer} {w} pass exact =
-    meets-answered (λ w p. (refl, refl)) (keeps-reads (readTests kind) answer) pass refl
-    (λ s. record { passes = refl; answers = exact s; holds = sound-written w s; still = λ z. refl })
+reads-answered kind {answer} pass exact = meets-read (readTests kind) answer (λ w p. (refl, refl)) pass exact
 
 -- what search answers; where two answers would be one, `cc` proves any equation
 value-got : (o : Option ℕ) (read old n : ℕ) → got.Value old n ≡ gotBy 0 o read → (o ≡ some old) × (read ≡ n)
@@ -220,7 +218,7 @@ unsound-got (some v) read e = never (cc)
 unsound-got none read e = never (cc)
 
 module _ (k : ℕ) (w : List ℕ) {r : Got} (gets : Gets w k r) where
-  gets-value : {old n : ℕ} → r ≡ got.Value old n → Sound w → (view w k ≡ some old) × (pagesRead k (poolOf w) ≡ n)
+  pub gets-value : {old n : ℕ} → r ≡ got.Value old n → Sound w → (view w k ≡ some old) × (pagesRead k (poolOf w) ≡ n)
   gets-value {old} {n} e s = value-got (view w k) (pagesRead k (poolOf w)) old n (sym e ∙ gets s)
 
   -- the pages read are all levels where the key is absent

@@ -1,9 +1,9 @@
 -- Laws of lists in code: what lent slices hold once one more entry is written, how many of the leading entries come before the upper bound, and what a list has come to after i entries,
 -- which each turn of the loop takes on and each way out turns into the promise.
 -- Assumes nothing.
-use mathlib.Core.Path.{_≡_, refl, sym, ap, subst, _∙_}
+use mathlib.Core.Path.{_≡_, refl, sym, ap, ap₂, subst, _∙_}
 use mathlib.Core.Bool.{Bool, true, false}
-use mathlib.Core.Option.{some}
+use mathlib.Core.Option.{Option, none, some}
 use mathlib.Core.List.{List, [], _∷_, _++_, map, map-append}
 use Prim.Native.Nat.{ℕ, suc, _+_, min, _≤_, _<_}
 use native.Mathlib.Nat.{add-zero}
@@ -11,7 +11,7 @@ use native.Mathlib.Numerals.{add-one}
 use native.Mathlib.Omega.{arith}
 use lib.ListN.{length, take, drop, getD, set, length-drop, length-map, length-set}
 use lib.Seq.{take-nil, take-suc, length-take-le, getD-drop}
-use Rattle.model.specs.Tree.{Entry, noEntry, entries, size}
+use Rattle.model.specs.Tree.{Entry, entry, noEntry, entries, size}
 use Rattle.model.specs.Entries.{gapOf, next, forth}
 use Rattle.tree.specs.declared.search.Aim.{Aim}
 use Rattle.tree.specs.declared.steps.Step.{Step}
@@ -22,8 +22,8 @@ use Rattle.tree.specs.Steps.{stepBy, Forth}
 use Rattle.map.specs.declared.list.Listed.{Listed}
 use Rattle.map.specs.declared.list.Listed.the-variants as listed
 use Rattle.map.specs.List.{laid, front, Stops, Holds, Runs}
-use Rattle.model.proofs.Cases.{either-lt, never}
-use Rattle.model.proofs.Lists.{next-some, next-none}
+use Rattle.model.proofs.Cases.{never}
+use Rattle.model.proofs.Lists.{next-some, found-some, found-none}
 use Rattle.model.proofs.Entries.{keyAt, gap-le, gap-more, gap-ends}
 
 -- ---- slices
@@ -86,18 +86,24 @@ module _ (es : List Entry) (ks₀ vs₀ : List ℕ) where
 
 -- ---- a step from gap g + i
 
+step-some : (o : Option Entry) (k v : ℕ) → step.Entry k v ≡ stepBy o → some (entry k v) ≡ o
+step-some (some e) k v q = ap₂ (λ (a b : ℕ). some (entry a b)) (cc) (cc)
+step-some none k v q = never (cc)
+
+step-end : (o : Option Entry) (r : Step) → r ≡ stepBy o → ((k v : ℕ) → r ≡ step.Entry k v → ⊥) → (r ≡ step.End) × (none ≡ o)
+step-end (some e) r q other = absurd (other (e .key) (e .value) q)
+step-end none r q other = (q, refl)
+
 module _ (es : List Entry) (g i : ℕ) where
-  -- what it answers is the entry behind i of those after gap g
+  -- the entry after it is the one behind i of those after gap g
+  pub behind-some : {e : Entry} → some e ≡ next (g + i) es → (i < length (drop g es)) × (getD (drop g es) i noEntry ≡ e)
+  behind-some q = let here = found-some es (g + i) noEntry q in (simp length-drop (omega (arith, here .0)), getD-drop g es i noEntry ∙ sym (here .1))
+
+  pub behind-none : none ≡ next (g + i) es → length (drop g es) ≤ i
+  behind-none q = simp length-drop (omega (arith, found-none es (g + i) q))
+
   step-entry : (k v : ℕ) → step.Entry k v ≡ stepBy (next (g + i) es) → Stood (drop g es) i k v
-  step-entry k v e =
-      either-lt (g + i) (length es)
-      (λ l.
-      let here : step.Entry k v ≡ stepBy (some (getD es (g + i) noEntry)) = e ∙ ap stepBy (next-some es (g + i) noEntry l) in
-      let same : getD (drop g es) i noEntry ≡ getD es (g + i) noEntry = getD-drop g es i noEntry in
-      record { there = simp length-drop (omega arith); key = cc; value = cc })
-      (λ l.
-      let end : step.Entry k v ≡ step.End = e ∙ ap stepBy (next-none es (g + i) l) in
-      never (cc))
+  step-entry k v e = let here = behind-some (step-some (next (g + i) es) k v e) in record { there = here .0; key = ap (λ (x : Entry). x .key) (here .1); value = ap (λ (x : Entry). x .value) (here .1) }
 
   -- and it goes over that
   step-forth : i < length (drop g es) → forth (next (g + i) es) (g + i) ≡ g + (i + 1)
@@ -105,10 +111,7 @@ module _ (es : List Entry) (g i : ℕ) where
 
   -- where it answers no entry there is none
   step-none : (r : Step) → r ≡ stepBy (next (g + i) es) → ((k v : ℕ) → r ≡ step.Entry k v → ⊥) → (r ≡ step.End) × (length (drop g es) ≤ i)
-  step-none r e other =
-      either-lt (g + i) (length es)
-      (λ l. absurd (other _ _ (e ∙ ap stepBy (next-some es (g + i) noEntry l))))
-      (λ l. (e ∙ ap stepBy (next-none es (g + i) l), simp length-drop (omega arith)))
+  step-none r e other = let end = step-end (next (g + i) es) r e other in (end .0, behind-none (end .1))
 
 -- ---- a list after i entries
 

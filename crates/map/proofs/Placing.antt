@@ -11,8 +11,7 @@ use native.Mathlib.Omega.{arith}
 use lib.Dec.{ltb, eqb}
 use lib.ListN.{length, getD}
 use borrow.Author.Tests.{lt-ltb, eq-eqb, ne-eqb}
-use Rattle.model.specs.Layout.{least}
-use Rattle.model.specs.Tree.{entry, noEntry, held, Formed}
+use Rattle.model.specs.Tree.{entry, noEntry, held}
 use Rattle.model.specs.Page.{pageOf, entryIn}
 use Rattle.model.specs.Pool.{heldBy, poolOf}
 use Rattle.model.specs.Sound.{Sound}
@@ -34,13 +33,11 @@ use Rattle.map.specs.declared.entry.Sought.{Sought}
 use Rattle.map.specs.declared.entry.Sought.the-variants as sought
 use Rattle.map.specs.declared.entry.Struck.the-variants as struck
 use Rattle.map.specs.Entry.{gapFor, fullFor, spotFor, Finds, Seeks, Adds, Strikes}
-use Rattle.model.proofs.Cases.{either, either-lt, never}
+use Rattle.model.proofs.Cases.{either, never}
 use Rattle.model.proofs.Entries.{gap-le, has-at, has-key, lookup-at}
 use Rattle.model.proofs.Right.{Right, sound-right}
-use Rattle.model.proofs.Written.{sound-written}
 use Rattle.tree.proofs.Sitting.{sound-sits}
-use Rattle.tree.proofs.Writing.{spot-entry}
-use Rattle.tree.proofs.Spots.{spot-some, spot-end}
+use Rattle.tree.proofs.Writing.{spot-there, spot-past}
 
 -- ---- what is read there
 
@@ -56,28 +53,22 @@ module _ (w : List ℕ) (k : ℕ) (sound : Sound w) where
 
   -- where the gap has a spot it has an entry
   gap-entry : (p s : ℕ) → spotFor k w ≡ spot.At p s → gapFor k w < length (heldBy (poolOf w))
-  unfolding spotFor held Formed
-  gap-entry p s e =
-      let P = poolOf w in
-      either-lt (gapFor k w) (length (heldBy P)) (λ l. l)
-      (λ l. never (cc (e, spot-end least 1 (P .whole .levels) (P .whole .tree) (gapFor k w) (right .formed) (omega (arith, gap-inside w k)))))
+  unfolding spotFor
+  gap-entry p s e = spot-there w sound (gapFor k w) (gap-inside w k) e .0
 
   -- and where it has none the key is absent
   end-absent : spotFor k w ≡ spot.End → member w k ≡ false
-  unfolding spotFor held Formed
+  unfolding spotFor
   end-absent e =
-      let P = poolOf w in
       either (member w k)
-      (λ y.
-      let some = spot-some least 1 (P .whole .levels) (P .whole .tree) (gapFor k w) (right .formed) (has-key k (heldBy P) (right .rising) y .0) (spot.At 0 0) in
-      never (cc (rw e at some)))
+      (λ y. absurd (omega (arith, spot-past w sound (gapFor k w) (gap-inside w k) e, has-key k (heldBy (poolOf w)) (right .rising) y .0)))
       (λ n. n)
 
   -- the entry read at the spot is the one after the gap
   module _ (p s key v : ℕ) (at : spotFor k w ≡ spot.At p s) (read : entry key v ≡ entryIn most (pageOf w p) s) where
     spot-read : entry key v ≡ getD (heldBy (poolOf w)) (gapFor k w) noEntry
     unfolding spotFor
-    spot-read = read ∙ spot-entry w (poolOf w) right (sound-written w sound) (gapFor k w) p s (gap-entry p s at) at
+    spot-read = read ∙ spot-there w sound (gapFor k w) (gap-inside w k) at .1
 
     -- so its key tells whether the key is there
     spot-key : member w k ≡ eqb key k
@@ -86,7 +77,7 @@ module _ (w : List ℕ) (k : ℕ) (sound : Sound w) where
         has-at k (heldBy (poolOf w)) (right .rising) ∙ rw (lt-ltb (gapFor k w) (length (heldBy (poolOf w))) b, ← spot-read)
 
     -- and its value is the key's
-    spot-value : member w k ≡ true → view w k ≡ some v
+    pub spot-value : member w k ≡ true → view w k ≡ some v
     spot-value y = lookup-at k (heldBy (poolOf w)) (right .rising) ∙ rw (y, ← spot-read)
 
 -- ---- where the key was sought

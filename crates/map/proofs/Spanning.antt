@@ -2,21 +2,19 @@
 -- is laid over the lent slices is what document 01's list writes.
 -- Assumes nothing.
 use mathlib.Core.Path.{_≡_, refl, sym, ap, _∙_}
-use mathlib.Core.Bool.{Bool, true, false, not, cond, _||_}
+use mathlib.Core.Bool.{Bool, true, false, cond, _||_}
 use mathlib.Core.List.{List, [], _∷_, map}
 use Prim.Native.Nat.{ℕ, min, _≤_}
 use native.Mathlib.Omega.{arith}
-use lib.Dec.{eqb}
 use lib.ListN.{length, take, drop, length-take, length-map}
 use lib.Seq.{take-all}
 use Rattle.model.specs.Lists.{All}
-use Rattle.model.specs.Head.{headed, kindWord}
 use Rattle.model.specs.Tree.{Entry, Rising, held}
 use Rattle.model.specs.Bound.{Bound, included, excluded, unbounded, beforeLower, beforeUpper}
 use Rattle.model.specs.Entries.{gapOf, between}
 use Rattle.model.specs.Pool.{heldBy, poolOf}
 use Rattle.model.specs.Sound.{Sound}
-use Rattle.model.specs.Refusal.{Test, _when_, refusal, noBound}
+use Rattle.model.specs.Refusal.{Test, refusal, noBound}
 use Rattle.model.specs.Call.{refused}
 use Rattle.model.specs.MapCalls.{readTests}
 use Rattle.model.specs.ListCalls.{Column, keyColumn, valueColumn, Lists, listTests, shortest, written}
@@ -34,6 +32,7 @@ use Rattle.map.specs.List.{laid, Tells, front, Runs, Spans, Fills}
 use Rattle.model.proofs.Cases.{either, contrary, never}
 use Rattle.model.proofs.Lists.{all-map, take-min}
 use Rattle.model.proofs.Entries.{falls-upper, gap-le, gap-slice, inside-slice}
+use Rattle.model.proofs.Meets.{reading-first, reading-passed}
 use Rattle.tree.proofs.Sitting.{sound-sits}
 use Rattle.map.proofs.Answers.{number-some}
 
@@ -83,7 +82,7 @@ module _ {w : List ℕ} {lower upper : Aim} {ps ss ps′ ss′ : List ℕ} {n : 
 -- ---- between two bounds, where no test refuses
 
 -- a refusal's number is given for that refusal
-listed-refused : {C : Type 0} (r : Listed) (m : ℕ) → listedOf r ≡ refused m → ((e : Refusal) → r ≡ listed.Refused e → numberOf e ≡ m → C) → C
+pub listed-refused : {C : Type 0} (r : Listed) (m : ℕ) → listedOf r ≡ refused m → ((e : Refusal) → r ≡ listed.Refused e → numberOf e ≡ m → C) → C
 listed-refused (listed.Wrote n) m q then = never (cc)
 listed-refused (listed.Refused e) m q then = then e refl (cc)
 
@@ -113,20 +112,10 @@ module _ {tests : List Test} {low high : Bound} {w : List ℕ} {n : ℕ} {ks vs 
 
 module _ (kind lower upper : ℕ) (w : List ℕ) where
   pub bounds-later : (e : Refusal) → refusal (readTests kind w) ≡ numberOf e → refusal (listTests kind lower upper w) ≡ numberOf e
-  bounds-later e = go (not (headed w)) (not (eqb (kindWord w) kind)) (noBound lower || noBound upper) (number-some e)
-    where
-      go : (a b c : Bool) {n : ℕ} → 1 ≤ n → refusal (1 when a ∷ 2 when b ∷ []) ≡ n → refusal (1 when a ∷ 2 when b ∷ 3 when c ∷ []) ≡ n
-      go true b c some e = e
-      go false true c some e = e
-      go false false c some e = absurd (omega arith)
+  bounds-later e refuses = sym (reading-first kind w _ (numberOf e) (number-some e) (sym refuses))
 
   bounds-last : refusal (readTests kind w) ≡ 0 → refusal (listTests kind lower upper w) ≡ cond (noBound lower || noBound upper) 3 0
-  bounds-last = go (not (headed w)) (not (eqb (kindWord w) kind)) (noBound lower || noBound upper)
-    where
-      go : (a b c : Bool) → refusal (1 when a ∷ 2 when b ∷ []) ≡ 0 → refusal (1 when a ∷ 2 when b ∷ 3 when c ∷ []) ≡ cond c 3 0
-      go true b c e = absurd (omega arith)
-      go false true c e = absurd (omega arith)
-      go false false c e = refl
+  bounds-last passed = reading-passed kind w _ (sym passed)
 
   module _ (passed : refusal (readTests kind w) ≡ 0) where
     pub lower-bad : noBound lower ≡ true → refusal (listTests kind lower upper w) ≡ 3
@@ -156,7 +145,7 @@ module _ (kind : ℕ) (aim : Aim) {r : CodeBound} (said : r ≡ cond (noBound ki
 
 -- ---- what is laid over the slices is what a list writes
 
-laid-written : (xs s : List ℕ) → length xs ≤ length s → laid xs s ≡ written xs s
+pub laid-written : (xs s : List ℕ) → length xs ≤ length s → laid xs s ≡ written xs s
 unfolding laid
 laid-written xs s l = rw (take-all (length s) xs l)
 

@@ -33,7 +33,7 @@ pub enum Struck {
 }
 
 // The path of the gap before a key, and whether the entry after it is the key's.
-fn seek(pool: &[u64], key: u64, pages: &mut [usize], slots: &mut [usize]) -> Sought
+pub fn seek(pool: &[u64], key: u64, pages: &mut [usize], slots: &mut [usize]) -> Sought
     requires { ⌜ headed (now pool) ≡ true ⌝ }
     requires { ⌜ (length (now pages) ≡ levelsWord (now pool)) × (length (now slots) ≡ levelsWord (now pool)) ⌝ }
     ensures { λ r. ⌜ Seeks (now (pool .entry)) key (now (pages .entry)) (now (slots .entry)) (now (pages .exit)) (now (slots .exit)) r ⌝ }

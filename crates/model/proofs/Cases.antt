@@ -3,7 +3,7 @@
 -- Assumes nothing.
 use mathlib.Core.Path.{_≡_, refl, sym, _∙_}
 use mathlib.Core.Bool.{Bool, true, false, true≢false}
-use mathlib.Core.Logic.{_≢_}
+use mathlib.Core.Logic.{_⊎_, inl, inr, _≢_}
 use Prim.Native.Nat.{ℕ, _≤_, _<_}
 use native.Mathlib.Omega.{arith}
 use lib.Dec.{leb, ltb, eqb}
@@ -40,11 +40,16 @@ module _ {ℓ} {C : Type ℓ} where
       go true e = yes-case e
       go false e = no-case e
 
--- a test has one answer
 -- from two things that `cc` proves equal and that are not, such as two variants
 pub never : {C : Type 0} → _≡_ {A = ℕ} 0 1 → C
 never e = absurd (omega arith)
 
+-- in the else of a `let` on an enum of three only the tag is known: it is one of the others
+pub other-tag : {tag : ℕ} → tag ≡ 0 → (tag ≡ 1) ⊎ (tag ≡ 2) → ⊥
+other-tag first (inl second) = omega arith
+other-tag first (inr third) = omega arith
+
+-- a test has one answer
 pub contrary : {C : Type 0} {b : Bool} → b ≡ true → b ≡ false → C
 contrary holds fails = absurd (true≢false (sym holds ∙ fails))
 

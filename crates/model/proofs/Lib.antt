@@ -39,5 +39,6 @@ pub mod Meets
 pub mod SourceMap
 pub mod SourceSet
 pub mod SourceList
+pub mod SourceCursor
 -- the bench cases
 pub mod Bench

@@ -10,6 +10,7 @@ use native.Mathlib.Omega.{arith}
 use lib.ListN.{length, take, drop, getD, set, length-append, length-take, length-drop, getElem?, List·getD-append}
 use lib.Seq.{take-append-le, drop-append-le, take-append-add, drop-append-add, split-at, drop-cons, set-split, set-append-left, set-append-seam, length-take-le, getD-at, getD-take, map-set-same, take-take, take-all}
 use Rattle.model.specs.Lists.{ins, splice, tab, All, final, every, del}
+use Rattle.model.proofs.Cases.{either-lt, never}
 use Rattle.model.proofs.Cases.{contrary, either-le, never}
 
 module _ {A : Type 0} where
@@ -151,6 +152,15 @@ pub next-none : {A : Type 0} (l : List A) (i : ℕ) → length l ≤ i → getEl
 next-none [] i b = refl
 next-none (x ∷ xs) zero b = absurd (omega arith)
 next-none (x ∷ xs) (suc i) b = next-none xs i (omega arith)
+
+-- and back
+pub found-some : {A : Type 0} (l : List A) (i : ℕ) (d : A) {x : A} → some x ≡ getElem? l i → (i < length l) × (x ≡ getD l i d)
+found-some l i d e = either-lt i (length l) (λ b. (b, cc (next-some l i d b))) (λ b. never (cc (next-none l i b)))
+
+pub found-none : {A : Type 0} (l : List A) (i : ℕ) → none ≡ getElem? l i → length l ≤ i
+found-none [] i e = omega arith
+found-none (x ∷ xs) zero e = never (cc)
+found-none (x ∷ xs) (suc i) e = let b = found-none xs i e in omega arith
 
 pub all-any : {A : Type 0} (P : A → Type 0) (l : List A) → ((x : A) → P x) → All P l
 all-any P [] f = tt

@@ -9,7 +9,7 @@ use Prim.Native.Nat.{ℕ, zero, suc, _≤_}
 use native.Mathlib.Omega.{arith}
 use lib.Dec.{eqb}
 use lib.ListN.{length}
-use borrow.Author.Tests.{ne-eqb}
+use borrow.Author.Tests.{eq-eqb, ne-eqb}
 use Rattle.model.specs.Lists.{All, every}
 use Rattle.model.specs.Head.{headed, kindWord}
 use Rattle.model.specs.Entries.{shut}
@@ -185,16 +185,26 @@ module _ {A : Type 0} {c : Call A} {w v : List ℕ} (staged : Staged c) (keeps :
   meets-unsound told = meets-stopped 8 (told .0) (inl refl) (λ s. absurd (told .1 s))
 
 -- a call that only reads
-pub meets-read : {A : Type 0} (tests : List ℕ → List Test) (answer : Pool → A) (w : List ℕ) (r : Outcome A) → Staged (reads tests answer) → refusal (tests w) ≡ 0
-    → ((n : ℕ) → r ≡ refused n → n ≡ 9) → (Sound w → r ≡ answered (answer (poolOf w))) → Meets (reads tests answer) w w r
-meets-read tests answer w r staged e late exact =
-    meets-late (reads tests answer) staged w w r (keeps-reads tests answer) e
-    record { long = refl; late = λ n h. inl (late n h); kept = λ n h. refl; exact = exact; holds = λ s z. sound-written w s; still = λ s h. refl }
+pub meets-read : {A : Type 0} (tests : List ℕ → List Test) (answer : Pool → A) {w : List ℕ} {a : A} → Staged (reads tests answer) → 0 ≡ refusal (tests w)
+    → (Sound w → a ≡ answer (poolOf w)) → Meets (reads tests answer) w w (answered a)
+meets-read tests answer {w} staged pass exact =
+    meets-answered staged (keeps-reads tests answer) pass refl (λ s. record { passes = refl; answers = exact s; holds = sound-written w s; still = λ z. refl })
 
 -- ---- what it means to pass
 
 pub passes-reading : (kind : ℕ) (w : List ℕ) → refusal (readTests kind w) ≡ 0 → (headed w ≡ true) × (kindWord w ≡ kind)
 passes-reading kind w e = let a = of-kind w kind 0 e in (a .0, a .1)
+
+-- what refuses a call that reads refuses it whatever tests follow; and past those the number is that of the tests that follow
+module _ (kind : ℕ) (w : List ℕ) (rest : ℕ) where
+  pub reading-first : (n : ℕ) → 1 ≤ n → n ≡ refusal (readTests kind w) → n ≡ cond (not (headed w)) 1 (cond (not (eqb (kindWord w) kind)) 2 rest)
+  reading-first n some =
+      either (headed w)
+      (λ h. rw h (either (eqb (kindWord w) kind) (λ k. rw k (λ e. absurd (omega arith))) (λ k. rw k (λ e. e))))
+      (λ h. rw h (λ e. e))
+
+  pub reading-passed : 0 ≡ refusal (readTests kind w) → cond (not (headed w)) 1 (cond (not (eqb (kindWord w) kind)) 2 rest) ≡ rest
+  reading-passed pass = let a = passes-reading kind w (sym pass) in rw (a .0, eq-eqb (kindWord w) kind (a .1))
 
 pub passes-changing : (kind : ℕ) (w : List ℕ) → refusal (changeTests kind w) ≡ 0 → (headed w ≡ true) × (kindWord w ≡ kind) × (poolOf w .cursor ≡ shut)
 passes-changing kind w e = let a = of-kind w kind _ e in (a .0, a .1, shut-there w (a .0) 0 (a .2) .0)

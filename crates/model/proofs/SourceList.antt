@@ -22,7 +22,7 @@ use Rattle.model.specs.Source.{view, member, Enumerates, Pairing}
 use Rattle.model.proofs.Lists.{getD-map, all-map}
 use Rattle.model.proofs.Entries.{keyAt, has-lookup, has-key, has-entry, lookup-at, gap-of-entry}
 use Rattle.model.proofs.Right.{sound-right}
-use Rattle.model.proofs.SourceMap.{keys, keys-enumerate}
+use Rattle.model.proofs.SourceMap.{keys, key-there, keys-enumerate}
 
 -- ---- lists of entries
 
@@ -36,13 +36,13 @@ entries-pairing es r = record {
   long = length-map es (λ e. e .value) ∙ sym (length-map es (λ e. e .key));
   each = λ i l.
       let b : i < length es = simp length-map at l in
-      rw (getD-map (λ e. e .key) es i noEntry 0 b, getD-map (λ e. e .value) es i noEntry 0 b, lookup-at (keyAt es i) es r, has-entry i es r b, gap-of-entry i es r b);
+      rw (key-there es i b, getD-map (λ e. e .value) es i noEntry 0 b, lookup-at (keyAt es i) es r, has-entry i es r b, gap-of-entry i es r b);
   all = λ k x e.
       let h : has k es ≡ true = has-lookup k es ∙ rw e in
       let g = gapBefore k es in
       let here = has-key k es r h in
       let found = rw h at (lookup-at k es r) in
-      (g, simp length-map (here .0), getD-map (λ e. e .key) es g noEntry 0 (here .0) ∙ here .1, getD-map (λ e. e .value) es g noEntry 0 (here .0) ∙ (cc));
+      (g, simp length-map (here .0), key-there es g (here .0) ∙ here .1, getD-map (λ e. e .value) es g noEntry 0 (here .0) ∙ (cc));
 }
 
 -- ---- a list that answered

@@ -118,13 +118,16 @@ lookup-removed k es r j =
 abbrev pub keys : List Entry → List ℕ
 keys es = map (λ e. e .key) es
 
+pub key-there : (es : List Entry) (i : ℕ) → i < length es → getD (keys es) i 0 ≡ keyAt es i
+key-there es i b = getD-map (λ e. e .key) es i noEntry 0 b
+
 -- the keys in key order
 module _ (es : List Entry) (r : Rising es) where
   as-many : (i : ℕ) → i < length (keys es) → i < length es
   as-many i l = simp length-map at l
 
   key-at : (i : ℕ) → i < length (keys es) → getD (keys es) i 0 ≡ keyAt es i
-  key-at i l = getD-map (λ e. e .key) es i noEntry 0 (as-many i l)
+  key-at i l = key-there es i (as-many i l)
 
   keys-increase : Increasing (keys es)
   keys-increase i j l b = rw (key-at i (omega arith), key-at j b) (rising-at es r i j l (as-many j b))

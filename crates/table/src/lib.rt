@@ -1,6 +1,9 @@
 // What the programs share. The table: a place for every key, 0 where it has none. An ordered map by itself, for its places are in key order. A place past its end has no entry, and
-// nothing is stored there. And words printed with a number.
+// nothing is stored there. Numbers at random (`random`), and words printed with a number.
 ghost use Prim.Native.Nat.{_≤_};
+
+pub mod random;
+
 use libc::STDOUT_FILENO;
 
 // Places of the table.
@@ -85,6 +88,23 @@ pub fn is_at(key: u64, value: u64, table: &[u64], place: usize) -> bool {
         return false;
     }
     value == table[place]
+}
+
+pub fn lesser(a: usize, b: usize) -> usize
+    ensures { λ r. ⌜ (r ≤ a) × (r ≤ b) ⌝ }
+{
+    if a < b {
+        return a;
+    }
+    b
+}
+
+// What a column is to have at a place.
+pub fn word(keys: bool, table: &[u64], place: usize) -> u64 {
+    if keys {
+        return key_of(place);
+    }
+    value_at(table, place)
 }
 
 pub fn say(text: &[u8], number: u64) {

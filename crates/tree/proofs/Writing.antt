@@ -17,15 +17,17 @@ use Rattle.model.specs.Standing.{rootOf, numberOf, Standing}
 use Rattle.model.specs.Gap.{slotAt, restAt, childAt}
 use Rattle.model.specs.Write.{writeAt, write}
 use Rattle.model.specs.Pool.{Pool, heldBy, poolOf}
+use Rattle.model.specs.Sound.{Sound}
 use Rattle.model.specs.Written.{Written}
 use Rattle.page.specs.declared.Change.{Change}
 use Rattle.page.specs.Node.{instead}
 use Rattle.page.specs.Page.{holdsAt}
 use Rattle.lend.specs.Pages.{most, ChangesIn, nodeIn}
+use Rattle.tree.specs.declared.steps.Spot.{Spot}
 use Rattle.tree.specs.declared.steps.Spot.the-variants as spot
 use Rattle.tree.specs.Steps.{spotOf}
 use Rattle.tree.specs.Write.{Writes}
-use Rattle.model.proofs.Cases.{either-lt, same-self, same-eq, either-eq}
+use Rattle.model.proofs.Cases.{either-lt, same-self, same-eq, either-eq, never}
 use Rattle.model.proofs.Lists.{all-at}
 use Rattle.model.proofs.Sums.{sum-at}
 use Rattle.model.proofs.Gap.{way-down, child-shaped, located-below, located-here}
@@ -37,6 +39,7 @@ use Rattle.model.proofs.Written.{sound-written}
 use Rattle.page.proofs.Pages.{holds-at}
 use Rattle.lend.proofs.Lent.{own-at}
 use Rattle.lend.proofs.Touching.{only-map, front-word}
+use Rattle.tree.proofs.Spots.{spot-some, spot-end}
 use Rattle.tree.proofs.Leaving.{Leaves, leaves-written, head-word, key-stays}
 
 -- ---- entry g of a tree, at slot s of page p
@@ -191,6 +194,31 @@ module _ (w : List ℕ) (P : Pool) (r : Right P) (a : Written w P) (g p s : ℕ)
         bits = λ q. rw (only-map (changes .only)) (a .bits q ∙ sym (write-meets least (P .whole) g e (r .formed) b q));
         stands = write-stands least (pageOf w) (pageOf w′) p s e (λ q n. sym (changes .only .others q (n, tt))) holds 1 h t g (r .formed) (a .stands) b (r .once) at;
       }
+
+-- in a sound pool: what the spot of a gap says of the entry after it
+module _ (w : List ℕ) (sound : Sound w) (g : ℕ) (within : g ≤ length (heldBy (poolOf w))) where
+  abbrev spotted-by : Spot
+  spotted-by = spotOf (poolOf w .whole .levels) (poolOf w .whole .tree) g
+
+  pub spot-there : {p s : ℕ} → spotted-by ≡ spot.At p s → (g < length (heldBy (poolOf w))) × (entryIn most (pageOf w p) s ≡ getD (heldBy (poolOf w)) g noEntry)
+  unfolding held Formed
+  spot-there {p} {s} e =
+      let P = poolOf w in
+      let right = sound-right w sound in
+      let there : g < length (heldBy P) =
+      either-lt g (length (heldBy P)) (λ l. l)
+      (λ l. never (cc (e, spot-end least 1 (P .whole .levels) (P .whole .tree) g (right .formed) (omega arith)))) in
+      (there, spot-entry w P right (sound-written w sound) g p s there e)
+
+  pub spot-past : spotted-by ≡ spot.End → length (heldBy (poolOf w)) ≤ g
+  unfolding held Formed
+  spot-past e =
+      let P = poolOf w in
+      either-lt g (length (heldBy P))
+      (λ l.
+      let some = spot-some least 1 (P .whole .levels) (P .whole .tree) g (sound-right w sound .formed) l (spot.At 0 0) in
+      never (cc (rw e at some)))
+      (λ l. l)
 
 -- the value of the entry that is read is put into its place
 pub writes : (w w′ : List ℕ) (p s key before v : ℕ) (c : Change) → entry key before ≡ entryIn most (pageOf w p) s

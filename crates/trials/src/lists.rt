@@ -1,6 +1,5 @@
 // Lists held against the table: between two bounds, into slices of lengths of their own, which entries come, how many, and that no word past them is changed.
 ghost use Prim.Native.Nat.{_≤_};
-use crate::random;
 use crate::tally::FIGURES;
 use crate::tally::LISTED;
 use crate::tally::WRONG;
@@ -13,8 +12,10 @@ use table::UNTOUCHED;
 use table::after;
 use table::held;
 use table::key_of;
+use table::lesser;
 use table::place_from;
-use table::value_at;
+use table::random;
+use table::word;
 
 // Two bounds: their kinds, and the places of their keys.
 pub struct Bounds {
@@ -60,23 +61,6 @@ fn last(bounds: Bounds) -> usize {
         1 => bounds.to,
         2.. => PLACES,
     }
-}
-
-fn lesser(a: usize, b: usize) -> usize
-    ensures { λ r. ⌜ (r ≤ a) × (r ≤ b) ⌝ }
-{
-    if a < b {
-        return a;
-    }
-    b
-}
-
-// What a column is to have at a place.
-fn word(keys: bool, table: &[u64], place: usize) -> u64 {
-    if keys {
-        return key_of(place);
-    }
-    value_at(table, place)
 }
 
 // Whether a column has the keys, or the values, of the first n entries from a place on, and past them what it had.

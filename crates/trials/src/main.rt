@@ -1,9 +1,7 @@
 // Trials of map and set: thousands of mixed calls on pools of several sizes, each held against a table with a place for every key, which is an ordered map by itself.
-// Every answer, lists between bounds, the whole list forth and back and the gaps of a key are compared, and the pool is checked, counted and copied on the way.
-pub mod compare;
+// Every answer and lists between bounds are compared, and the pool is checked, counted and copied on the way.
 pub mod lists;
 pub mod map_trial;
-pub mod random;
 pub mod reads;
 pub mod set_trial;
 pub mod tally;

@@ -1,7 +1,5 @@
 // A map's calls, each held against the table.
-use crate::compare::gaps;
 use crate::lists;
-use crate::random;
 use crate::reads::contained;
 use crate::reads::read_all;
 use crate::reads::read_some;
@@ -20,6 +18,7 @@ use map::Removed;
 use map::Replaced;
 use table::key_of;
 use table::put;
+use table::random;
 use table::value_at;
 
 fn insert(
@@ -122,7 +121,6 @@ pub fn one(pool: &mut [u64], table: &mut [u64], seed: u64, filed: u64, tally: &m
         replace(pool, table, place, random::value(seed), tally);
     } else if what == 14 {
         get(pool, table, place, tally);
-        expect(tally, gaps(pool, table, place));
     } else {
         lists::of_map(pool, table, random::next(seed), tally);
     }

@@ -1,6 +1,5 @@
 // A set's calls, each held against the table, which has 1 at the places of its keys.
 use crate::lists;
-use crate::random;
 use crate::reads::contained;
 use crate::reads::read_all;
 use crate::reads::read_some;
@@ -18,6 +17,7 @@ use map::set::Inserted;
 use map::set::Removed;
 use table::key_of;
 use table::put;
+use table::random;
 use table::value_at;
 
 fn insert(pool: &mut [u64], table: &mut [u64], place: usize, tally: &mut [u64; FIGURES]) {

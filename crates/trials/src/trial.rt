@@ -1,8 +1,6 @@
-// A trial: so many calls at random on a pool of a kind, each held against the table; on the way the pool is checked and counted, walked forth and back, and copied.
-use crate::compare::listed;
+// A trial: so many calls at random on a pool of a kind, each held against the table; on the way the pool is checked and counted, and copied, and the copy listed.
 use crate::lists;
 use crate::map_trial;
-use crate::random;
 use crate::set_trial;
 use crate::tally::FIGURES;
 use crate::tally::expect;
@@ -15,6 +13,7 @@ use map::refusal::MAP;
 use table::PLACES;
 use table::UNTOUCHED;
 use table::held;
+use table::random;
 
 // Words of the longest pool of the trials.
 pub const WORDS: usize = 8192;
@@ -104,13 +103,10 @@ fn one(
     }
 }
 
-// What is looked at between calls: after every 32nd the pool and a map's whole list forth and back, after every 128th a copy.
+// What is looked at between calls: after every 32nd the pool, after every 128th a copy and its whole list.
 fn look(pool: &[u64], kind: u64, table: &[u64], i: u64, tally: &mut [u64; FIGURES]) {
     if i % 32 == 0 {
         stands(pool, held(table, 0, table.len()) as u64, tally);
-        if kind == MAP {
-            expect(tally, listed(pool, table));
-        }
     }
     if i % 128 == 0 {
         copied(pool, kind, table, tally);

@@ -1,14 +1,10 @@
 -- `list::run` meets its contract: each turn takes one more entry along, and each way out is where the list is whole. Assumes nothing.
-use mathlib.Core.Path.{_≡_, sym, ap, _∙_}
-use mathlib.Core.Logic.{_⊎_, ⊎-elim}
-use Prim.Native.Nat.{ℕ, _-_}
-use native.Mathlib.Omega.{arith}
+use mathlib.Core.Path.{sym, ap, _∙_}
+use Prim.Native.Nat.{_-_}
 use denote.Enum.Declared.{tagOf}
 use borrow.Author.Needs.{needs}
 use borrow.Author.Tests.{not-true, not-false}
-use Rattle.tree.specs.declared.steps.Step.{Step}
-use Rattle.tree.specs.declared.steps.Step.the-variants as step
-use Rattle.model.proofs.Cases.{never}
+use Rattle.model.proofs.Cases.{other-tag}
 use Rattle.tree.proofs.steps.Step.{the-type}
 use Rattle.map.proofs.Listing.{Ran, ran-none, ran-more, ran-end, ran-behind, ran-full}
 use Rattle.map.proofs.list.run.Statement.{statement}
@@ -44,16 +40,10 @@ same-length-3 c = search needs
 same-length-4 : tie.Need-same-length-4 Inv-loop μ-loop
 same-length-4 c = search needs
 
--- in the else of a `let`, only the tag is known: it is one of the others
-no-entry : (r : Step) → (tagOf the-type r ≡ 1) ⊎ (tagOf the-type r ≡ 2) → (k v : ℕ) → r ≡ step.Entry k v → ⊥
-no-entry r t k v e =
-    ⊎-elim (λ q. never (sym (ap (tagOf the-type) e) ∙ q))
-    (λ q. let z : _≡_ {A = ℕ} 0 2 = sym (ap (tagOf the-type) e) ∙ q in omega arith) t
-
 returns : tie.Need-returns Inv-loop μ-loop
 returns c =
     let over = c .before .before .before .before .before .before in
-    ran-end (over .before .before .before .before .loop .inv) (over .next .ensures) (no-entry (over .next .result) (c .before .match .keys2)) (c .stop .ensures)
+    ran-end (over .before .before .before .before .loop .inv) (over .next .ensures) (λ k v e. other-tag (ap (tagOf the-type) e) (c .before .match .keys2)) (c .stop .ensures)
 
 before-requires : tie.Need-before-requires Inv-loop μ-loop
 before-requires c κs = search needs

@@ -1,12 +1,11 @@
 -- `pool::count` meets its contract: word 2 counts a sound pool's entries. Assumes nothing.
-use mathlib.Core.Path.{_≡_, refl, sym, ap, _∙_}
+use mathlib.Core.Path.{_≡_, refl, sym, _∙_}
 use mathlib.Core.Bool.{true, false}
 use native.Mathlib.Omega.{arith}
 use borrow.Author.Needs.{needs}
 use borrow.Author.Tests.{not-true, not-false}
 use Rattle.model.specs.Head.{headed}
 use Rattle.model.specs.Pool.{poolOf}
-use Rattle.model.specs.Call.{answered}
 use Rattle.model.specs.PoolCalls.{poolCount}
 use Rattle.model.proofs.Meets.{meets-early, meets-read}
 use Rattle.lend.proofs.Fitting.{head-long}
@@ -31,7 +30,7 @@ shared-slice-read-entries c = let long = head-long _ (fitting (c .before)) in om
 
 returns-2 : tie.Need-returns-2
 unfolding poolOf
-returns-2 c = meets-read _ _ _ _ (λ w p. (refl, refl)) (rw (fitting (c .before))) (λ n e. cc) (λ s. ap answered (sym (s .count)))
+returns-2 c = meets-read _ _ (λ w p. (refl, refl)) (rw (fitting (c .before))) (λ s. sym (s .count))
 
 pub count-spec : {M : Type 1} → statement M
 count-spec = tie.close (tie.spec fits-requires returns shared-slice-read-entries returns-2)

@@ -31,14 +31,12 @@ shared-slice-read-if2 c = let long = head-long _ (fitting (c .before)) in omega 
 returns-2 : tie.Need-returns-2
 unfolding poolOf
 returns-2 c =
-    meets-read _ _ _ _ (λ w p. (refl, refl)) (rw (fitting (c .before .before))) (λ n e. cc)
-    (λ s. rw (s .count, eq-eqb _ _ (c .if2 .taken)))
+    meets-read _ _ (λ w p. (refl, refl)) (rw (fitting (c .before .before))) (λ s. rw (s .count, eq-eqb _ _ (c .if2 .taken)))
 
 returns-3 : tie.Need-returns-3
 unfolding poolOf
 returns-3 c =
-    meets-read _ _ _ _ (λ w p. (refl, refl)) (rw (fitting (c .before .before))) (λ n e. cc)
-    (λ s. rw (s .count, ne-eqb _ _ (c .if2 .left)))
+    meets-read _ _ (λ w p. (refl, refl)) (rw (fitting (c .before .before))) (λ s. rw (s .count, ne-eqb _ _ (c .if2 .left)))
 
 pub is-empty-spec : {M : Type 1} → statement M
 is-empty-spec = tie.close (tie.spec fits-requires returns shared-slice-read-if2 returns-2 returns-3)

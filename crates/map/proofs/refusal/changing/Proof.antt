@@ -1,18 +1,12 @@
 -- `refusal::changing` meets its contract: what refuses a call that reads refuses one that changes, and then the cursor is looked at. Assumes nothing.
 use mathlib.Core.Path.{_≡_, ap, sym, _∙_}
 use mathlib.Core.Bool.{true}
-use mathlib.Core.List.{List}
-use Prim.Native.Nat.{ℕ, _≤_}
 use native.Mathlib.Omega.{arith}
-use lib.Dec.{eqb}
 use borrow.Author.Needs.{needs}
 use borrow.Author.Tests.{eq-eqb, ne-eqb}
 use Rattle.model.specs.Head.{headed, kindWord}
-use Rattle.model.specs.Refusal.{refusal}
-use Rattle.model.specs.MapCalls.{readTests, changeTests}
 use Rattle.map.specs.Answers.{earlyNumber}
-use Rattle.model.proofs.Cases.{either}
-use Rattle.model.proofs.Meets.{passes-reading}
+use Rattle.model.proofs.Meets.{passes-reading, reading-first}
 use Rattle.lend.proofs.Fitting.{head-long}
 use Rattle.map.proofs.Answers.{number-some}
 use Rattle.map.proofs.refusal.changing.Statement.{statement}
@@ -24,18 +18,11 @@ reading-requires c κs = search needs
 enum-known-n : tie.Need-enum-known-n
 enum-known-n c = search needs
 
--- what the first two tests refuse they refuse, whatever comes after them
-refused-already : (kind : ℕ) (w : List ℕ) (n : ℕ) → 1 ≤ n → n ≡ refusal (readTests kind w) → n ≡ refusal (changeTests kind w)
-refused-already kind w n some =
-    either (headed w)
-    (λ h. rw h (either (eqb (kindWord w) kind) (λ k. rw k (λ e. absurd (omega arith))) (λ k. rw k (λ e. e))))
-    (λ h. rw h (λ e. e))
-
 returns : tie.Need-returns
 returns c =
     let a = c .before .before .before .before .before .args in
     let told = c .before .n .given in
-    refused-already (a .kind) (a .pool .now) _ (number-some (told .0 .0)) (sym (ap earlyNumber (told .1)) ∙ c .before .before .before .reading .ensures)
+    reading-first (a .kind) (a .pool .now) _ _ (number-some (told .0 .0)) (sym (ap earlyNumber (told .1)) ∙ c .before .before .before .reading .ensures)
 
 enum-told : tie.Need-enum-told
 enum-told c = search needs

@@ -1,15 +1,13 @@
 -- `check::cursor` meets its contract: each answer by the words that led there. Assumes nothing.
-use mathlib.Core.Path.{_≡_, sym, ap, subst, _∙_}
-use mathlib.Core.Logic.{_⊎_, ⊎-elim}
-use Prim.Native.Nat.{ℕ, _-_}
+use mathlib.Core.Path.{ap, subst}
+use Prim.Native.Nat.{_-_}
 use native.Mathlib.Omega.{arith}
 use denote.Enum.Declared.{tagOf}
 use borrow.Author.Needs.{needs}
 use Rattle.model.specs.Head.{rootWord, levelsWord, keyWord}
 use Rattle.tree.specs.declared.search.Got.{Got}
-use Rattle.tree.specs.declared.search.Got.the-variants as got
 use Rattle.tree.specs.Search.{GetsBelow}
-use Rattle.model.proofs.Cases.{never}
+use Rattle.model.proofs.Cases.{other-tag}
 use Rattle.lend.proofs.Fitting.{head-long}
 use Rattle.tree.proofs.Checking.{root-there, cursor-start, cursor-closed, cursor-empty, cursor-lost, cursor-found}
 use Rattle.tree.proofs.search.Got.{the-type}
@@ -73,12 +71,6 @@ get-below-requires c κs =
 enum-told : tie.Need-enum-told
 enum-told c = search needs
 
--- in the else of a `let`, only the tag is known: it is one of the others
-no-value : (r : Got) → (tagOf the-type r ≡ 1) ⊎ (tagOf the-type r ≡ 2) → (v m : ℕ) → r ≡ got.Value v m → ⊥
-no-value r t v m e =
-    ⊎-elim (λ q. never (sym (ap (tagOf the-type) e) ∙ q))
-    (λ q. let z : _≡_ {A = ℕ} 0 2 = sym (ap (tagOf the-type) e) ∙ q in omega arith) t
-
 returns-4 : tie.Need-returns-4
 returns-4 c =
     let past = c .before .before .before .before in
@@ -87,7 +79,7 @@ returns-4 c =
     let some = past .if3 .left in
     let root = root-there w (s .pre) some in
     cursor-lost w (s .pre) (past .before .before .before .before .if1 .left) (levelsWord w - 1) (rootWord w - 1) (omega arith) (root .is)
-    (c .before .get-below .result) (c .before .get-below .ensures) (no-value (c .before .get-below .result) (c .match .keys2))
+    (c .before .get-below .result) (c .before .get-below .ensures) (λ v m e. other-tag (ap (tagOf the-type) e) (c .match .keys2))
 
 returns-5 : tie.Need-returns-5
 returns-5 c =
