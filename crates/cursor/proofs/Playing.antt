@@ -28,7 +28,7 @@ use Rattle.map.specs.List.{laid}
 use Rattle.cursor.specs.declared.Step.{Step}
 use Rattle.cursor.specs.declared.Step.the-variants as step
 use Rattle.cursor.specs.Answers.{stepOf}
-use Rattle.cursor.specs.Playback.{ahead, Plays, Stops, Runs}
+use Rattle.cursor.specs.Playback.{Plays, Stops}
 use Rattle.model.proofs.Cases.{never, contrary}
 use Rattle.map.proofs.Answers.{number-some, nine-unsound}
 use Rattle.map.proofs.Listing.{laid-none, laid-entry, behind-some, behind-none}
@@ -63,13 +63,13 @@ pub record Along (w₀ ks₀ vs₀ w ks vs : List ℕ) (i : ℕ) : Type 0 where
 -- and on any words, with what was asked for at the start
 pub record Played (n : ℕ) (w₀ ks₀ vs₀ w ks vs : List ℕ) (i : ℕ) : Type 0 where
   pub pass : refusal (cursorTests w₀) ≡ 0
-  pub room : (n ≤ length ks₀) × (n ≤ length vs₀)
+  pub room : n ≡ min (length ks₀) (length vs₀)
   pub few : i ≤ n
   pub long : (length w ≡ length w₀) × (length ks ≡ length ks₀) × (length vs ≡ length vs₀)
   pub none : i ≡ 0 → (w ≡ w₀) × (ks ≡ ks₀) × (vs ≡ vs₀)
   pub along : Sound w₀ → Along w₀ ks₀ vs₀ w ks vs i
 
-pub played-none : {n : ℕ} {w : List ℕ} (ks vs : List ℕ) → refusal (cursorTests w) ≡ 0 → (n ≤ length ks) × (n ≤ length vs) → Played n w ks vs w ks vs 0
+pub played-none : {n : ℕ} {w : List ℕ} (ks vs : List ℕ) → refusal (cursorTests w) ≡ 0 → n ≡ min (length ks) (length vs) → Played n w ks vs w ks vs 0
 played-none {n} {w} ks vs pass room = record {
   pass = pass;
   room = room;
@@ -90,28 +90,38 @@ module _ {n : ℕ} {w₀ ks₀ vs₀ w ks vs : List ℕ} {i : ℕ} (played : Pla
   played-wrote : {w′ : List ℕ} {a : Listed} → length w′ ≡ length w
       → ((e : Refusal) → a ≡ listed.Refused e → (e ≡ reason.Unsound) × (w′ ≡ w₀) × (i ≡ 0))
       → (Sound w₀ → (w′ ≡ w) × (a ≡ listed.Wrote i) × (take n (behind w₀) ≡ take i (behind w₀)))
-      → Runs n w₀ ks₀ vs₀ w′ ks vs a
+      → Plays w₀ w′ (keyColumn ks₀ ks ∷ valueColumn vs₀ vs ∷ []) (listedOf a)
   played-wrote {w′} {a} long kept ends = record {
-    long = (long ∙ played .long .0, played .long .1, played .long .2);
-    kept = λ e z. let k = kept e z in let none = played .none (k .2) in (k .0, k .1, none .1, none .2);
+    long = (long ∙ played .long .0, (played .long .1, (played .long .2, tt)));
+    early = λ m p. absurd (omega (arith, played .pass));
+    late = λ m _ q. listed-refused a m q (λ e is number. sym number ∙ ap numberOf (kept e is .0));
+    kept = λ m q. listed-refused a m q (λ e is _. let k = kept e is in let none = played .none (k .2) in (k .1, (none .1, (none .2, tt))));
     sound = λ s. rw (ends s .0) (played .along s .sound);
-    exact = λ s. ends s .1 ∙ ap listed.Wrote (sym (many s));
-    keys = λ s. rw (ends s .2) (played .along s .keys ∙ laid-written _ ks₀ (fits (λ e. e .key) ks₀ (played .room .0) s));
-    values = λ s. rw (ends s .2) (played .along s .values ∙ laid-written _ vs₀ (fits (λ e. e .value) vs₀ (played .room .1) s));
-    holds = λ s. ap poolOf (ends s .0) ∙ played .along s .holds ∙ ap (λ (j : ℕ). withCursor (poolOf w₀) (gap (gapBy (poolOf w₀) + j))) (sym (many s));
-    still = λ s z. ends s .0 ∙ played .none (sym (many s) ∙ ap length z) .0;
+    exact = λ s _. rw (← short) (ap listedOf (ends s .1) ∙ ap answered (sym (many s)));
+    writes = λ s _.
+        let a = played .along s in
+        rw (← short, ends s .2) (
+          a .keys ∙ laid-written _ ks₀ (fits (λ e. e .key) ks₀ (omega arith) s),
+          (a .values ∙ laid-written _ vs₀ (fits (λ e. e .value) vs₀ (omega arith) s), tt),
+        );
+    holds = λ s _.
+        rw (← short) (ap poolOf (ends s .0) ∙ played .along s .holds ∙ ap (λ (j : ℕ). withCursor (poolOf w₀) (gap (gapBy (poolOf w₀) + j))) (sym (many s)));
+    still = λ s _. rw (← short) (λ z. ends s .0 ∙ played .none (sym (many s) ∙ ap length z) .0);
   }
     where
-      many : Sound w₀ → length (ahead n (poolOf w₀)) ≡ i
+      short : n ≡ min (length ks₀) (length vs₀)
+      short = played .room
+
+      many : Sound w₀ → length (take n (behind w₀)) ≡ i
       many s = ap length (ends s .2) ∙ length-take-le i (behind w₀) (played .along s .few)
 
       fits : (part : Entry → ℕ) (s₀ : List ℕ) → n ≤ length s₀ → Sound w₀ → length (map part (take i (behind w₀))) ≤ length s₀
       fits part s₀ room s = let few = played .few in simp (length-map, length-take) (omega arith)
 
-  pub played-full : n ≤ i → Runs n w₀ ks₀ vs₀ w ks vs (listed.Wrote n)
+  pub played-full : n ≤ i → Plays w₀ w (keyColumn ks₀ ks ∷ valueColumn vs₀ vs ∷ []) (answered n)
   played-full l =
       let all : n ≡ i = omega (arith, played .few) in
-      played-wrote refl (λ e z. never (cc)) (λ s. (refl, ap listed.Wrote all, ap (λ (j : ℕ). take j (behind w₀)) all))
+      played-wrote {a = listed.Wrote n} refl (λ e z. never (cc)) (λ s. (refl, ap listed.Wrote all, ap (λ (j : ℕ). take j (behind w₀)) all))
 
   module _ {w′ : List ℕ} (r : Step) (m : Meets cursorNext w w′ (stepOf r)) where
     -- a sound pool passes the tests again: it is the one that passed them, with the gap elsewhere
@@ -162,9 +172,9 @@ module _ {n : ℕ} {w₀ ks₀ vs₀ w ks vs : List ℕ} {i : ℕ} (played : Pla
         (nine-unsound e (⊎-elim (λ n. n) (λ no. contrary no refl) (m .late (numberOf e) pass said)), m .kept (numberOf e) said ∙ first)
 
     -- there is no next entry
-    pub played-end : {a : Listed} → ((k v : ℕ) → r ≡ step.Entry k v → ⊥) → Stops r i a → Runs n w₀ ks₀ vs₀ w′ ks vs a
-    played-end other stop =
-        played-wrote (m .long)
+    pub played-end : {a : Listed} → ((k v : ℕ) → r ≡ step.Entry k v → ⊥) → Stops r i a → Plays w₀ w′ (keyColumn ks₀ ks ∷ valueColumn vs₀ vs ∷ []) (listedOf a)
+    played-end {a} other stop =
+        played-wrote {a = a} (m .long)
         (λ e z.
         let refuses = stop .stops e z in
         let first = refused-first (refuses .0) (refuses .1) in
@@ -195,17 +205,3 @@ plays-refused e q =
       holds = λ _ p. absurd (omega arith);
       still = λ _ _ _. refl;
     }
-
-pub plays-run : {n : ℕ} {w ks vs w′ ks′ vs′ : List ℕ} (r : Listed) → refusal (cursorTests w) ≡ 0 → n ≡ min (length ks) (length vs) → Runs n w ks vs w′ ks′ vs′ r
-    → Plays w w′ (keyColumn ks ks′ ∷ valueColumn vs vs′ ∷ []) (listedOf r)
-plays-run r pass short runs = record {
-  long = (runs .long .0, (runs .long .1, (runs .long .2, tt)));
-  early = λ m p. absurd (omega arith);
-  late = λ m _ q. listed-refused r m q (λ e is number. sym number ∙ ap numberOf (runs .kept e is .0));
-  kept = λ m q. listed-refused r m q (λ e is _. let k = runs .kept e is in (k .1, (k .2, (k .3, tt))));
-  sound = runs .sound;
-  exact = λ s _. rw (← short) (ap listedOf (runs .exact s));
-  writes = λ s _. rw (← short) (runs .keys s, (runs .values s, tt));
-  holds = λ s _. rw (← short) (runs .holds s);
-  still = λ s _. rw (← short) (runs .still s);
-}

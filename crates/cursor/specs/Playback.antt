@@ -17,16 +17,11 @@ use Rattle.model.specs.CursorCalls.{cursorTests}
 use Rattle.map.specs.declared.list.Listed.{Listed}
 use Rattle.map.specs.declared.list.Listed.the-variants as listed
 use Rattle.map.specs.declared.refusal.Refusal.{Refusal}
-use Rattle.map.specs.declared.refusal.Refusal.the-variants as reason
 use Rattle.cursor.specs.declared.Step.{Step}
 use Rattle.cursor.specs.declared.Step.the-variants as step
 
--- the first n entries after the gap
-abbrev pub ahead : ℕ → Pool → List Entry
-ahead n p = take n (drop (gapBy p) (heldBy p))
-
 abbrev pub played : List Column → Pool → List Entry
-played cs p = ahead (shortest cs) p
+played cs p = take (shortest cs) (drop (gapBy p) (heldBy p))
 
 pub record Plays (w w′ : List ℕ) (cs : List Column) (r : Outcome ℕ) : Type 0 where
   pub long : (length w′ ≡ length w) × All (λ c. length (c .after) ≡ length (c .before)) cs
@@ -41,20 +36,8 @@ pub record Plays (w w′ : List ℕ) (cs : List Column) (r : Outcome ℕ) : Type
   pub holds : Sound w → refusal (cursorTests w) ≡ 0 → poolOf w′ ≡ withCursor (poolOf w) (gap (gapBy (poolOf w) + length (played cs (poolOf w))))
   pub still : Sound w → refusal (cursorTests w) ≡ 0 → played cs (poolOf w) ≡ [] → w′ ≡ w
 
--- ---- in code, past the tests
+-- ---- in code: playback that ends with no further entry, after n
 
--- playback that ends with no further entry, after n
 pub record Stops (s : Step) (n : ℕ) (r : Listed) : Type 0 where
   pub wrote : s ≡ step.End → r ≡ listed.Wrote n
   pub stops : (e : Refusal) → r ≡ listed.Refused e → (s ≡ step.Refused e) × (n ≡ 0)
-
--- at most n entries
-pub record Runs (n : ℕ) (w ks vs w′ ks′ vs′ : List ℕ) (r : Listed) : Type 0 where
-  pub long : (length w′ ≡ length w) × (length ks′ ≡ length ks) × (length vs′ ≡ length vs)
-  pub kept : (e : Refusal) → r ≡ listed.Refused e → (e ≡ reason.Unsound) × (w′ ≡ w) × (ks′ ≡ ks) × (vs′ ≡ vs)
-  pub sound : Sound w → Sound w′
-  pub exact : Sound w → r ≡ listed.Wrote (length (ahead n (poolOf w)))
-  pub keys : Sound w → ks′ ≡ written (map (λ e. e .key) (ahead n (poolOf w))) ks
-  pub values : Sound w → vs′ ≡ written (map (λ e. e .value) (ahead n (poolOf w))) vs
-  pub holds : Sound w → poolOf w′ ≡ withCursor (poolOf w) (gap (gapBy (poolOf w) + length (ahead n (poolOf w))))
-  pub still : Sound w → ahead n (poolOf w) ≡ [] → w′ ≡ w

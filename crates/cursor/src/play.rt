@@ -1,13 +1,13 @@
 // Playback: the entries from the gap on, by nexts, into lent slices. Each answer is taken apart, and playback goes on only with the entry that it carries.
 ghost use mathlib.Core.Path.{_≡_};
 ghost use mathlib.Core.List.{[], _∷_};
-ghost use Prim.Native.Nat.{_≤_};
+ghost use Prim.Native.Nat.{min};
 ghost use lib.ListN.{length};
 ghost use Rattle.model.specs.Refusal.{refusal};
 ghost use Rattle.model.specs.CursorCalls.{cursorTests};
 ghost use Rattle.model.specs.ListCalls.{keyColumn, valueColumn};
 ghost use Rattle.map.specs.Answers.{listedOf};
-ghost use Rattle.cursor.specs.Playback.{Stops, Runs, Plays};
+ghost use Rattle.cursor.specs.Playback.{Stops, Plays};
 use crate::Step;
 use crate::gap;
 use crate::next;
@@ -28,11 +28,11 @@ fn stop(step: Step, n: usize) -> Listed
     }
 }
 
-// At most `most` entries.
+// Past the tests: at most `most` entries.
 fn run(pool: &mut [u64], most: usize, keys: &mut [u64], values: &mut [u64]) -> Listed
     requires { ⌜ refusal (cursorTests (now pool)) ≡ 0 ⌝ }
-    requires { ⌜ (most ≤ length (now keys)) × (most ≤ length (now values)) ⌝ }
-    ensures { λ r. ⌜ Runs most (now (pool .entry)) (now (keys .entry)) (now (values .entry)) (now (pool .exit)) (now (keys .exit)) (now (values .exit)) r ⌝ }
+    requires { ⌜ most ≡ min (length (now keys)) (length (now values)) ⌝ }
+    ensures { λ r. ⌜ Plays (now (pool .entry)) (now (pool .exit)) (keyColumn (now (keys .entry)) (now (keys .exit)) ∷ valueColumn (now (values .entry)) (now (values .exit)) ∷ []) (listedOf r) ⌝ }
 {
     let mut i: usize = 0;
     while i < most {

@@ -9,7 +9,7 @@ use borrow.Author.Tests.{ltb-true, ltb-false}
 use Rattle.model.specs.Refusal.{refusal}
 use Rattle.model.specs.CursorCalls.{cursorTests}
 use Rattle.map.specs.Answers.{earlyNumber}
-use Rattle.cursor.proofs.Playing.{plays-refused, plays-run}
+use Rattle.cursor.proofs.Playing.{plays-refused}
 use Rattle.cursor.proofs.play.play.Statement.{statement}
 use Rattle.cursor.proofs.play.play.Tie as tie
 
@@ -40,7 +40,7 @@ shorter : (c : tie.After-run-arg3) → let a = c .before .before .before .before
 shorter c = ⊎-elim (λ g. omega (arith, ltb-true)) (λ g. omega (arith, ltb-false)) (c .before .before .before .if1 .came)
 
 run-requires : tie.Need-run-requires
-run-requires c κs = let most = shorter c in (passed (c .before .before .before .before), (omega arith, omega arith))
+run-requires c κs = (passed (c .before .before .before .before), shorter c)
 
 same-length-2 : tie.Need-same-length-2
 same-length-2 c = search needs
@@ -52,9 +52,7 @@ same-length-4 : tie.Need-same-length-4
 same-length-4 c = search needs
 
 returns-2 : tie.Need-returns-2
-returns-2 c =
-    let over = c .before .before .before .before .before .before in
-    plays-run (over .run .result) (passed (over .before .before .before .before .before)) (shorter (over .before)) (over .run .ensures)
+returns-2 c = c .before .before .before .before .before .before .run .ensures
 
 pub play-spec : {M : Type 1} → statement M
 play-spec =
