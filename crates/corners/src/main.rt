@@ -129,11 +129,12 @@ fn bounds() {
     write(b"\n");
 }
 
-// A map of one entry, with one word of another number.
-fn spoil(pool: &mut [u64], word: usize, by: u64) {
-    numbers::make(pool, MAP);
-    numbers::insert(pool, 7, 5);
-    put(pool, word, by);
+// A map of one entry.
+fn seven() -> [u64; ONE] {
+    let mut pool = [UNTOUCHED; ONE];
+    numbers::make(&mut pool, MAP);
+    numbers::insert(&mut pool, 7, 5);
+    pool
 }
 
 fn copy_out(pool: &[u64]) {
@@ -156,22 +157,35 @@ fn emptied(pool: &mut [u64]) {
     sound(pool);
 }
 
-// Every call on such a map.
-fn spoiled(text: &[u8], word: usize, by: u64) {
-    let mut pool = [UNTOUCHED; ONE];
-    spoil(&mut pool, word, by);
-    let mut twin = pool;
+// Every call on such a pool.
+fn calls(text: &[u8], start: [u64; ONE]) {
+    let mut pool = start;
+    let mut twin = start;
     write(text);
     map_calls(&mut pool);
     set_calls(&mut pool);
     say(b" count ", numbers::count(&pool));
     say(b" empty ", numbers::is_empty(&pool));
-    say(b" changed ", changed(&twin, &pool));
+    say(b" changed ", changed(&start, &pool));
     sound(&pool);
     copy_out(&pool);
     copy_in(&mut pool);
     emptied(&mut twin);
     write(b"\n");
+}
+
+// With one word of another number.
+fn spoiled(text: &[u8], word: usize, by: u64) {
+    let mut pool = seven();
+    put(&mut pool, word, by);
+    calls(text, pool);
+}
+
+// With the cursor open, after the entry.
+fn opened() {
+    let mut pool = seven();
+    cursor::opening::lower(&mut pool, 1, 7);
+    calls(b"cursor open:", pool);
 }
 
 // Copies between lengths: to another, from words that are no pool, to words that can be none.
@@ -280,7 +294,7 @@ fn main() {
     kinds();
     bounds();
     spoiled(b"no head:", 0, 2);
-    spoiled(b"cursor open:", OPEN, 1);
+    opened();
     spoiled(b"root of ten:", FIRST_PAGE, 10);
     copies();
     full_pools();
