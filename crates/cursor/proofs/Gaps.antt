@@ -55,18 +55,6 @@ passes-cursor w e =
       opened = either-eq (openWord w) 0 (λ z. let shut = rw (eq-eqb (openWord w) 0 z) at (a .2) in omega arith) (λ n. omega arith);
     }
 
--- a sound map with an open cursor passes
-pub open-passes : (w : List ℕ) {g : ℕ} → Sound w → poolOf w .kind ≡ 0 → poolOf w .cursor ≡ gap g → refusal (cursorTests w) ≡ 0
-unfolding poolOf cursorOf
-open-passes w s k o =
-    either (eqb (openWord w) 0)
-    (λ y. let lost = rw y at o in never (cc))
-    (λ n. rw (s .head, eq-eqb (kindWord w) 0 k, n))
-
-pub held-kind : (w : List ℕ) → kindWord w ≡ 0 → poolOf w .kind ≡ 0
-unfolding poolOf
-held-kind w k = k
-
 -- ---- where the gap is, in a sound pool
 
 -- the entry that an open cursor's gap names: entry g, of the gap after it

@@ -28,12 +28,14 @@ use Rattle.map.specs.List.{laid}
 use Rattle.cursor.specs.declared.Step.{Step}
 use Rattle.cursor.specs.declared.Step.the-variants as step
 use Rattle.cursor.specs.Answers.{stepOf}
-use Rattle.cursor.specs.Playback.{Plays, Stops}
+use Rattle.model.specs.Playback.{Plays}
+use Rattle.cursor.specs.Playback.{Stops}
 use Rattle.model.proofs.Cases.{never, contrary}
 use Rattle.map.proofs.Answers.{number-some, nine-unsound}
 use Rattle.map.proofs.Listing.{laid-none, laid-entry, behind-some, behind-none}
 use Rattle.map.proofs.Spanning.{listed-refused, laid-written}
-use Rattle.cursor.proofs.Gaps.{passes-cursor, open-passes, held-kind, gap-same}
+use Rattle.model.proofs.Meets.{gap-passes}
+use Rattle.cursor.proofs.Gaps.{passes-cursor, gap-same}
 
 -- ---- what a next answers
 
@@ -124,11 +126,9 @@ module _ {n : ℕ} {w₀ ks₀ vs₀ w ks vs : List ℕ} {i : ℕ} (played : Pla
       played-wrote {a = listed.Wrote n} refl (λ e z. never (cc)) (λ s. (refl, ap listed.Wrote all, ap (λ (j : ℕ). take j (behind w₀)) all))
 
   module _ {w′ : List ℕ} (r : Step) (m : Meets cursorNext w w′ (stepOf r)) where
-    -- a sound pool passes the tests again: it is the one that passed them, with the gap elsewhere
+    -- a sound pool passes the tests again: its cursor is still in a gap
     again : Sound w₀ → refusal (cursorTests w) ≡ 0
-    again s =
-        let a = played .along s in
-        open-passes w (a .sound) (ap (λ (p : Pool). p .kind) (a .holds) ∙ held-kind w₀ (passes-cursor w₀ (played .pass) .kind)) (ap (λ (p : Pool). p .cursor) (a .holds))
+    again s = let a = played .along s in gap-passes w (a .sound) (ap (λ (p : Pool). p .cursor) (a .holds))
 
     next-is : Sound w₀ → nextOf (poolOf w) ≡ nextAt w₀ i
     next-is s = ap nextOf (played .along s .holds)

@@ -1,9 +1,9 @@
 -- What each changing call leaves, of a pool that is right: the entries are the list model's, and the pool stays right where the call is not refused.
 -- Assumes nothing.
-use mathlib.Core.Path.{_≡_, subst, refl, _∙_}
+use mathlib.Core.Path.{_≡_, subst, _∙_}
 use mathlib.Core.Bool.{true, false, Bool, cond}
 use mathlib.Core.List.{List}
-use Prim.Native.Nat.{ℕ, zero, _<_, suc, pred}
+use Prim.Native.Nat.{ℕ, _<_, suc, pred}
 use native.Mathlib.Omega.{arith}
 use lib.Dec.{ltb}
 use lib.ListN.{length}
@@ -14,7 +14,7 @@ use Rattle.model.specs.Write.{write}
 use Rattle.model.specs.Pool.{Pool, heldBy, gapBy, withWhole, freshOf, withCursor}
 use Rattle.model.specs.MapCalls.{file, strike, noRoom, crowded, putAt}
 use Rattle.model.specs.CursorCalls.{rewrite, nextOf, prevOf, strikeNext}
-use Rattle.model.proofs.Cases.{either, either-lt}
+use Rattle.model.proofs.Cases.{either, either-lt, either-zero}
 use Rattle.model.proofs.Lists.{next-some, next-none}
 use Rattle.model.proofs.Entries.{keyAt, has-key, gap-le, absent-fits}
 use Rattle.model.proofs.Insert.{insert-held}
@@ -64,11 +64,6 @@ module _ (p : Pool) (r : Right p) where
 
 -- ---- the cursor: the entry after the gap, where there is one, and the entry before it
 
--- the gap is at the start, or just after an entry
-either-gap : {C : Type 0} (n : ℕ) → (n ≡ 0 → C) → ((g : ℕ) → n ≡ suc g → C) → C
-either-gap zero start after = start refl
-either-gap (suc g) start after = after g refl
-
 module _ (p : Pool) (r : Right p) (map-kind : p .kind ≡ 0) where
   abbrev es : List Entry
   es = heldBy p
@@ -91,7 +86,7 @@ module _ (p : Pool) (r : Right p) (map-kind : p .kind ≡ 0) where
   pub prev-right : Right (withCursor p (gap (back (prevOf p) at-gap)))
   prev-right =
       let b = r .within in
-      either-gap at-gap
+      either-zero at-gap
       (λ e. rw e (right-cursor p r 0 (omega arith) map-kind))
       (λ g e. rw (e, next-some es g noEntry (omega arith)) (right-cursor p r g (omega arith) map-kind))
 
@@ -104,7 +99,7 @@ module _ (p : Pool) (r : Right p) (map-kind : p .kind ≡ 0) where
   pub write-prev-right : (v : ℕ) → Right (rewrite (prevOf p) (pred at-gap) v p)
   write-prev-right v =
       let b = r .within in
-      either-gap at-gap
+      either-zero at-gap
       (λ e. rw e r)
       (λ g e. let i : g < length es = omega arith in rw (e, next-some es g noEntry i) (right-write p r g v i no-set))
 

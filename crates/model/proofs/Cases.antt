@@ -4,7 +4,7 @@
 use mathlib.Core.Path.{_≡_, refl, sym, _∙_}
 use mathlib.Core.Bool.{Bool, true, false, true≢false}
 use mathlib.Core.Logic.{_⊎_, inl, inr, _≢_}
-use Prim.Native.Nat.{ℕ, _≤_, _<_}
+use Prim.Native.Nat.{ℕ, zero, suc, _≤_, _<_}
 use native.Mathlib.Omega.{arith}
 use lib.Dec.{leb, ltb, eqb}
 use borrow.Author.Tests.{leb-true, leb-false, ltb-true, ltb-false, eqb-true, eqb-false, eq-eqb, ne-eqb}
@@ -39,6 +39,11 @@ module _ {ℓ} {C : Type ℓ} where
       go : (s : Bool) → t ≡ s → C
       go true e = yes-case e
       go false e = no-case e
+
+  -- none, or one more than some number
+  pub either-zero : (n : ℕ) → (n ≡ 0 → C) → ((m : ℕ) → n ≡ suc m → C) → C
+  either-zero zero none-case some-case = none-case refl
+  either-zero (suc m) none-case some-case = some-case m refl
 
 -- from two things that `cc` proves equal and that are not, such as two variants
 pub never : {C : Type 0} → _≡_ {A = ℕ} 0 1 → C

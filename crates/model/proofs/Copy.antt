@@ -22,7 +22,7 @@ module _ (w : List ℕ) (long : 8 ≤ length w) where
   first : length (take 5 w) ≡ 5
   first = simp length-take (omega arith)
 
-  copied-length : length (copied w) ≡ length w
+  pub copied-length : length (copied w) ≡ length w
   unfolding copied
   copied-length = simp (length-append, length-take, length-drop) (omega arith)
 

@@ -28,7 +28,7 @@ Keeps c = (w : List ℕ) → Sound w → number c w ≡ 0 → Right (c .after (p
 
 -- ---- what it means that no test applies
 
-passed : (b : Bool) (n rest : ℕ) → 1 ≤ n → cond b n rest ≡ 0 → (b ≡ false) × (rest ≡ 0)
+pub passed : (b : Bool) (n rest : ℕ) → 1 ≤ n → cond b n rest ≡ 0 → (b ≡ false) × (rest ≡ 0)
 passed true n rest l e = absurd (omega arith)
 passed false n rest l e = (refl, e)
 

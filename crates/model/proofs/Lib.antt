@@ -29,12 +29,17 @@ pub mod Standing
 pub mod Right
 pub mod Calls
 pub mod Keeps
--- the words that hold a pool, and what two pools that hold the same share
+-- the words that hold a pool, the pages reached by words alone, and what two pools that hold the same share
 pub mod Written
 pub mod Copy
+pub mod Reached
 pub mod Alike
 -- how a call comes to meet its promise
 pub mod Meets
+-- any two outcomes agree
+pub mod Agree
+-- a season of use
+pub mod Season
 -- the source's clauses, of the calls
 pub mod SourceMap
 pub mod SourceSet

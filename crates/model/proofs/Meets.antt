@@ -11,20 +11,32 @@ use lib.Dec.{eqb}
 use lib.ListN.{length}
 use borrow.Author.Tests.{eq-eqb, ne-eqb}
 use Rattle.model.specs.Lists.{All, every}
-use Rattle.model.specs.Head.{headed, kindWord}
-use Rattle.model.specs.Entries.{shut}
-use Rattle.model.specs.Pool.{Pool, poolOf}
+use Rattle.model.specs.Head.{headed, kindWord, openWord}
+use Rattle.model.specs.Entries.{shut, gap}
+use Rattle.model.specs.Pool.{Pool, poolOf, cursorOf}
 use Rattle.model.specs.Sound.{Sound}
 use Rattle.model.specs.Written.{Written}
 use Rattle.model.specs.Refusal.{Test, refusal, names, applies, firstOf}
 use Rattle.model.specs.Call.{Call, Outcome, refused, answered, given, left, number, Meets}
 use Rattle.model.specs.PoolCalls.{reads}
 use Rattle.model.specs.MapCalls.{readTests, changeTests}
-use Rattle.model.proofs.Cases.{either, never, contrary}
+use Rattle.model.specs.CursorCalls.{cursorTests}
+use Rattle.model.proofs.Cases.{either, either-eq, never, contrary}
 use Rattle.model.proofs.Lists.{every-true}
-use Rattle.model.proofs.Right.{Right}
+use Rattle.model.proofs.Head.{head-facts}
+use Rattle.model.proofs.Right.{Right, sound-right}
 use Rattle.model.proofs.Keeps.{Keeps, of-kind, shut-there, keeps-reads}
 use Rattle.model.proofs.Written.{sound-written, written-sound, written-pool}
+
+-- ---- what is given, and its number
+
+pub given-answered : {A : Type 0} (n : ℕ) (a b : A) → answered b ≡ given n a → (n ≡ 0) × (b ≡ a)
+given-answered zero a b e = (refl, cc)
+given-answered (suc n) a b e = never (cc)
+
+pub given-refused : {A : Type 0} (m n : ℕ) (a : A) → refused (suc n) ≡ given m a → m ≡ suc n
+given-refused zero n a e = never (cc)
+given-refused (suc m) n a e = cc
 
 -- ---- the tests of a call, in their two parts
 
@@ -208,3 +220,19 @@ module _ (kind : ℕ) (w : List ℕ) (rest : ℕ) where
 
 pub passes-changing : (kind : ℕ) (w : List ℕ) → refusal (changeTests kind w) ≡ 0 → (headed w ≡ true) × (kindWord w ≡ kind) × (poolOf w .cursor ≡ shut)
 passes-changing kind w e = let a = of-kind w kind _ e in (a .0, a .1, shut-there w (a .0) 0 (a .2) .0)
+
+-- a sound pool whose cursor is in a gap is a map with an open cursor, so the cursor's calls pass their tests
+module _ (w : List ℕ) {g : ℕ} (s : Sound w) (open-there : poolOf w .cursor ≡ gap g) where
+  pub gap-opened : openWord w ≡ 1
+  unfolding poolOf cursorOf
+  gap-opened =
+      either-eq (openWord w) 0
+      (λ z. let lost = rw (eq-eqb (openWord w) 0 z) at open-there in never (cc))
+      (λ n. omega (arith, head-facts w (s .head) .opened))
+
+  pub gap-map : kindWord w ≡ 0
+  unfolding poolOf
+  gap-map = either-eq (kindWord w) 1 (λ k. let lost = sym open-there ∙ sound-right w s .closed k in never (cc)) (λ n. omega (arith, head-facts w (s .head) .kind))
+
+  pub gap-passes : refusal (cursorTests w) ≡ 0
+  gap-passes = rw (s .head, gap-map, gap-opened)

@@ -97,18 +97,6 @@ module _ (p : Pool) (r : Right p) where
       le-ltb (room p) (needed least (p .whole) g)
       (omega (arith, room-enough least (p .pages) (p .whole) g (r .some) (r .formed) b n, right-pages))
 
--- of every sound pool, in the words of demand 3: n entries on h levels in P pages
-pub record Demand (p : Pool) : Type 0 where
-  pub deep : 1 ≤ p .whole .levels → 2 * suc least ^ pred (p .whole .levels) ≤ suc (length (heldBy p))
-  pub full : length (heldBy p) ≤ mostEntries least * pagesOf (p .whole)
-  pub levels : p .whole .levels ≤ mostLevels
-  pub room : (g : ℕ) → g ≤ length (heldBy p) → length (heldBy p) ≤ least * p .pages → crowded g p ≡ false
-
-pub sound-demand : (w : List ℕ) → Sound w → Demand (poolOf w)
-sound-demand w s =
-    let r = sound-right w s in
-    record { deep = right-deep (poolOf w) r; full = right-full (poolOf w) r; levels = right-levels (poolOf w) r; room = right-room (poolOf w) r }
-
 -- ---- each change keeps it
 
 module _ (p : Pool) (r : Right p) where

@@ -1,7 +1,7 @@
 -- The source's clauses about the cursor, of any call that meets its promise on a sound pool, with no premise on the order of keys: open at a bound, next, prev, the peeks, the writes,
--- insert after, remove next. The cursor after is well formed, for the pool after is sound.
+-- insert after, remove next, close. The cursor after is well formed, for the pool after is sound.
 -- Assumes nothing.
-use mathlib.Core.Path.{_≡_, refl, sym, _∙_}
+use mathlib.Core.Path.{_≡_, refl, sym, ap, _∙_}
 use mathlib.Core.Bool.{Bool, true, false, not, cond}
 use mathlib.Core.Logic.{_⊎_, inl, inr, _↔_}
 use mathlib.Core.Option.{Option, none, some}
@@ -11,18 +11,20 @@ use native.Mathlib.Omega.{arith}
 use lib.Dec.{eqb}
 use lib.ListN.{length, getD, set, length-map}
 use lib.Seq.{map-set-same}
-use borrow.Author.Tests.{lt-ltb}
+use borrow.Author.Tests.{lt-ltb, eq-eqb, ne-eqb}
 use Rattle.model.specs.Lists.{ins, del}
 use Rattle.model.specs.Layout.{least}
 use Rattle.model.specs.Head.{headed, kindWord, openWord}
 use Rattle.model.specs.Tree.{Entry, entry, noEntry, Rising}
 use Rattle.model.specs.Bound.{boundOf, beforeLower, beforeUpper}
 use Rattle.model.specs.Entries.{has, lookup, filed, removed, gapOf, gapBefore, gap, next, prev, above, under, keyFits, back, valueOf}
-use Rattle.model.specs.Pool.{heldBy, freshOf, poolOf, withCursor}
+use Rattle.model.specs.Pool.{Pool, heldBy, freshOf, poolOf, withCursor}
 use Rattle.model.specs.Sound.{Sound}
+use Rattle.model.specs.Refusal.{refusal, mapKind}
 use Rattle.model.specs.Call.{Call, Outcome, Meets, refused, answered, given, number}
-use Rattle.model.specs.MapCalls.{crowded}
-use Rattle.model.specs.CursorCalls.{cursorOpenLower, cursorOpenUpper, cursorNext, cursorPrev, cursorPeekNext, cursorPeekPrev, cursorWriteNext, cursorWritePrev, cursorInsertAfter, cursorRemoveNext, nextOf, prevOf, rewrite, strikeNext}
+use Rattle.model.specs.PoolCalls.{Makes, clearTests}
+use Rattle.model.specs.MapCalls.{crowded, changeTests}
+use Rattle.model.specs.CursorCalls.{cursorTests, cursorOpenLower, cursorOpenUpper, cursorNext, cursorPrev, cursorPeekNext, cursorPeekPrev, cursorWriteNext, cursorWritePrev, cursorInsertAfter, cursorRemoveNext, cursorClose, nextOf, prevOf, rewrite, strikeNext}
 use Rattle.model.specs.Source.{view, altered, Mutated, keysIn, position, WellFormed, Positioned, FitsThere, Shown, Moved}
 use Rattle.model.proofs.Cases.{either-lt, either-eq, never, contrary}
 use Rattle.model.proofs.Lists.{map-ins, map-del, next-some, next-none, found-some, found-none}
@@ -31,7 +33,8 @@ use Rattle.model.proofs.Insert.{insert-held}
 use Rattle.model.proofs.Remove.{remove-held}
 use Rattle.model.proofs.Write.{write-held}
 use Rattle.model.proofs.Right.{Right, sound-right}
-use Rattle.model.proofs.SourceMap.{answered-answer, answered-after, keys, key-there, keys-enumerate, lookup-filed, lookup-removed, mutated-altered}
+use Rattle.model.proofs.Meets.{gap-opened, gap-map, gap-passes}
+use Rattle.model.proofs.SourceMap.{answered-number, answered-answer, answered-after, must-answer, keys, key-there, keys-enumerate, lookup-filed, lookup-removed, mutated-altered}
 
 -- ---- lists of entries: an entry at its place
 
@@ -42,6 +45,10 @@ module _ (es : List Entry) where
   prev-at : (g : ℕ) {e : Entry} → some e ≡ prev g es → (0 < g) × At es (pred g) e
   prev-at zero h = never (cc)
   prev-at (suc g) h = (omega arith, found-some es g noEntry h)
+
+  prev-next : (g : ℕ) {e : Entry} → some e ≡ prev g es → some e ≡ next (pred g) es
+  prev-next zero h = never (cc)
+  prev-next (suc g) h = h
 
   prev-start : (g : ℕ) → g ≤ length es → none ≡ prev g es → g ≡ 0
   prev-start zero b h = refl
@@ -286,31 +293,75 @@ module _ {w v : List ℕ} (s : Sound w) where
   pub remove-next-end : Meets cursorRemoveNext w v (answered none) → (position w ≡ length (keysIn w)) × (v ≡ w)
   remove-next-end meets = let h = told s meets in (next-over s h, meets .still s (rw (← h)))
 
--- ---- a changed value: next, then write prev; prev, then write next
+  -- ---- close: the borrow ends, and what the cursor held is what the map holds
 
--- the write is at the entry that was shown, and nothing else has changed since
-changed : (w u v : List ℕ) {i to : ℕ} {e : Entry} (x : ℕ) {old : ℕ} → Shown w i e → Moved w u to
-    → (at-gap : ℕ) → at-gap ≡ i → Mutated (view u) (view v) (getD (keysIn u) at-gap 0) old x
-    → (old ≡ e .value) × ((j : ℕ) → view v j ≡ altered (view w) (e .key) (some x) j)
-changed w u v {i} {to} {e} x {old} there still at-gap q wrote =
-    let key : getD (keysIn u) at-gap 0 ≡ e .key = rw (q, still .keys) (sym (there .key)) in
-    let m = mutated-altered (view u) (view v) (e .key) old x .0 (rw key at wrote) in
-    let was = sym (m .0) ∙ (still .values (e .key) ∙ there .value) in
-    (cc, λ j. m .1 j ∙ rw (still .values j))
+  pub close-view : Meets cursorClose w v (answered tt) → (keysIn v ≡ keysIn w) × ((k : ℕ) → view v k ≡ view w k)
+  close-view meets = let h = after s meets in (rw h, λ k. rw h)
+
+-- till then a call that changes the map is refused with 4: insert, replace and remove have these tests, and clear
+module _ {w v : List ℕ} {g : ℕ} (s : Sound w) (open-there : poolOf w .cursor ≡ gap g) where
+  pub open-shuts : {A : Type 0} (c : Call A) {r : Outcome A} → c .early w ≡ changeTests mapKind w → Meets c w v r → (r ≡ refused 4) × (v ≡ w)
+  open-shuts c tests meets =
+      let q = meets .early 3 (rw (tests, s .head, gap-map w s open-there, gap-opened w s open-there)) in
+      (q, meets .kept 4 q)
+
+  pub open-shuts-clear : {kind : ℕ} {r : Outcome (Unit {0})} → Makes (clearTests w) kind w v r → (r ≡ refused 4) × (v ≡ w)
+  open-shuts-clear {r = r} makes =
+      let q : r ≡ refused 4 = makes .exact ∙ rw (s .head, gap-opened w s open-there) in
+      (q, makes .kept 4 q)
+
+-- ---- a changed value: the source's write through the reference that a step or a peek answers
+
+-- x written at entry e, beside the gap
+abbrev Changed : List ℕ → List ℕ → Entry → ℕ → Outcome (Option ℕ) → Type 0
+Changed w v e x r = (r ≡ answered (some (e .value))) × (keysIn v ≡ keysIn w) × (position v ≡ position w) × ((j : ℕ) → view v j ≡ altered (view w) (e .key) (some x) j)
+
+-- a write at the entry's place is one at its key
+at-entry : (w v : List ℕ) (x : ℕ) {i : ℕ} {e : Entry} → Shown w i e → Mutated (view w) (view v) (getD (keysIn w) i 0) (e .value) x
+    → (j : ℕ) → view v j ≡ altered (view w) (e .key) (some x) j
+at-entry w v x {e = e} there wrote = mutated-altered (view w) (view v) (e .key) (e .value) x .0 (rw (there .key) wrote) .1
+
+-- past the tests the write must answer
+module _ {w v : List ℕ} (s : Sound w) (pass : refusal (cursorTests w) ≡ 0) {e : Entry} (x : ℕ) {r : Outcome (Option ℕ)} where
+  changed-next : some e ≡ nextOf (poolOf w) → Meets (cursorWriteNext x) w v r → Changed w v e x r
+  changed-next h meets =
+      let a = must-answer (cursorWriteNext x) s pass (ap valueOf h) meets in
+      let b = write-next-entry s x (a .1) in
+      (a .0, b .2, b .3, at-entry w v x (next-shown s h) (b .1))
+
+  changed-prev : some e ≡ prevOf (poolOf w) → Meets (cursorWritePrev x) w v r → Changed w v e x r
+  changed-prev h meets =
+      let a = must-answer (cursorWritePrev x) s pass (ap valueOf h) meets in
+      let b = write-prev-entry s x (a .1) in
+      (a .0, b .2, b .3, at-entry w v x (prev-shown s h .1) (b .1))
 
 module _ {w u v : List ℕ} (s : Sound w) where
-  pub next-changed : {e : Entry} (x : ℕ) {old : ℕ} → Meets cursorNext w u (answered (some e)) → Meets (cursorWritePrev x) u v (answered (some old))
-      → (old ≡ e .value) × (keysIn v ≡ keysIn w) × (position v ≡ suc (position w)) × ((j : ℕ) → view v j ≡ altered (view w) (e .key) (some x) j)
+  pub next-changed : {e : Entry} (x : ℕ) {r : Outcome (Option ℕ)} → Meets cursorNext w u (answered (some e)) → Meets (cursorWritePrev x) u v r
+      → (r ≡ answered (some (e .value))) × (keysIn v ≡ keysIn w) × (position v ≡ suc (position w)) × ((j : ℕ) → view v j ≡ altered (view w) (e .key) (some x) j)
   next-changed x stepped wrote =
-      let a = next-entry s stepped in
-      let b = write-prev-entry (stepped .sound s) x wrote in
-      let c = changed w u v x (a .0) (a .1) (pred (position u)) (omega (arith, a .1 .position)) (b .1) in
-      (c .0, b .2 ∙ a .1 .keys, b .3 ∙ a .1 .position, c .1)
+      let h = told s stepped in
+      let left : poolOf u ≡ withCursor (poolOf w) (gap (suc (position w))) = after s stepped ∙ rw (← h) in
+      let pass = gap-passes u (stepped .sound s) (ap (λ (p : Pool). p .cursor) left) in
+      rw left at (changed-prev (stepped .sound s) pass x (h ∙ sym (ap prevOf left)) wrote)
 
-  pub prev-changed : {e : Entry} (x : ℕ) {old : ℕ} → Meets cursorPrev w u (answered (some e)) → Meets (cursorWriteNext x) u v (answered (some old))
-      → (old ≡ e .value) × (keysIn v ≡ keysIn w) × (position v ≡ pred (position w)) × ((j : ℕ) → view v j ≡ altered (view w) (e .key) (some x) j)
+  pub prev-changed : {e : Entry} (x : ℕ) {r : Outcome (Option ℕ)} → Meets cursorPrev w u (answered (some e)) → Meets (cursorWriteNext x) u v r
+      → (r ≡ answered (some (e .value))) × (keysIn v ≡ keysIn w) × (position v ≡ pred (position w)) × ((j : ℕ) → view v j ≡ altered (view w) (e .key) (some x) j)
   prev-changed x stepped wrote =
-      let a = prev-entry s stepped in
-      let b = write-next-entry (stepped .sound s) x wrote in
-      let c = changed w u v x (a .1) (a .2) (position u) (a .2 .position) (b .1) in
-      (c .0, b .2 ∙ a .2 .keys, b .3 ∙ a .2 .position, c .1)
+      let h = told s stepped in
+      let left : poolOf u ≡ withCursor (poolOf w) (gap (pred (position w))) = after s stepped ∙ rw (← h, back-one) in
+      let pass = gap-passes u (stepped .sound s) (ap (λ (p : Pool). p .cursor) left) in
+      rw left at (changed-next (stepped .sound s) pass x (prev-next (es s) (position w) h ∙ sym (ap nextOf left)) wrote)
+
+  pub peek-next-changed : {e : Entry} (x : ℕ) {r : Outcome (Option ℕ)} → Meets cursorPeekNext w u (answered (some e)) → Meets (cursorWriteNext x) u v r
+      → (r ≡ answered (some (e .value))) × (keysIn v ≡ keysIn w) × (position v ≡ position w) × ((j : ℕ) → view v j ≡ altered (view w) (e .key) (some x) j)
+  peek-next-changed {e} x peeked wrote =
+      changed-next s (answered-number cursorPeekNext w u (some e) s peeked) x (told s peeked) (rw (peeked .still s refl) at wrote)
+
+  pub peek-prev-changed : {e : Entry} (x : ℕ) {r : Outcome (Option ℕ)} → Meets cursorPeekPrev w u (answered (some e)) → Meets (cursorWritePrev x) u v r
+      → (r ≡ answered (some (e .value))) × (keysIn v ≡ keysIn w) × (position v ≡ position w) × ((j : ℕ) → view v j ≡ altered (view w) (e .key) (some x) j)
+  peek-prev-changed {e} x peeked wrote =
+      changed-prev s (answered-number cursorPeekPrev w u (some e) s peeked) x (told s peeked) (rw (peeked .still s refl) at wrote)
+
+-- a reference that is not written through
+pub shown-kept : {w : List ℕ} {i : ℕ} {e : Entry} → Shown w i e → (j : ℕ) → view w j ≡ altered (view w) (e .key) (some (e .value)) j
+shown-kept {e = e} there j = either-eq (e .key) j (λ q. rw (← q, eq-eqb (e .key) (e .key) refl) (there .value)) (λ n. rw (ne-eqb (e .key) j n))

@@ -13,28 +13,26 @@ use lib.ListN.{length, getD, set, take, drop, take-append-drop, length-map}
 use lib.Seq.{split-at, set-split}
 use borrow.Author.Tests.{eq-eqb, ne-eqb}
 use Rattle.model.specs.Lists.{All, del}
+use Rattle.model.specs.Head.{openWord}
 use Rattle.model.specs.Tree.{Entry, entry, noEntry, Rising, held, entries}
 use Rattle.model.specs.Entries.{has, lookup, gapBefore, filed, removed}
 use Rattle.model.specs.Gap.{Found}
 use Rattle.model.specs.Pool.{Pool, heldBy, poolOf}
 use Rattle.model.specs.Sound.{Sound}
-use Rattle.model.specs.Refusal.{Test}
-use Rattle.model.specs.Call.{Call, answered, given, left, number, Meets}
+use Rattle.model.specs.Refusal.{Test, mapKind}
+use Rattle.model.specs.Call.{Call, Outcome, answered, left, number, Meets}
 use Rattle.model.specs.PoolCalls.{Makes, Copies, poolCount, poolIsEmpty}
 use Rattle.model.specs.MapCalls.{file, strike, pagesRead, Seen, mapInsert, mapGet, mapContains, mapReplace, mapRemove}
 use Rattle.model.specs.Source.{view, member, altered, Mutated, Increasing, Enumerates}
-use Rattle.model.proofs.Cases.{either, either-eq, contrary, either-lt, never}
+use Rattle.model.proofs.Cases.{either, either-eq, contrary, either-lt}
 use Rattle.model.proofs.Lists.{getD-map}
 use Rattle.model.proofs.Entries.{keyAt, rising-at, rising-lo, rising-right, lookup-none, lookup-past, there, has-lookup, has-key, has-entry, gap-le, absent-fits, rising-ins, lookup-at}
 use Rattle.model.proofs.Right.{Right, sound-right}
 use Rattle.model.proofs.Calls.{file-held, strike-held}
 use Rattle.model.proofs.Copy.{copy-sound, copy-pool}
+use Rattle.model.proofs.Meets.{given-answered, passes-reading}
 
 -- ---- a call that answered
-
-given-answered : {A : Type 0} (n : ℕ) (a b : A) → answered b ≡ given n a → (n ≡ 0) × (b ≡ a)
-given-answered zero a b e = (refl, cc)
-given-answered (suc n) a b e = never (cc)
 
 module _ {A : Type 0} (c : Call A) (w v : List ℕ) (a : A) (s : Sound w) (m : Meets c w v (answered a)) where
   pub answered-number : number c w ≡ 0
@@ -45,6 +43,11 @@ module _ {A : Type 0} (c : Call A) (w v : List ℕ) (a : A) (s : Sound w) (m : M
 
   pub answered-after : poolOf v ≡ c .after (poolOf w)
   answered-after = m .holds s ∙ ap (λ (n : ℕ). left n (poolOf w) (c .after (poolOf w))) answered-number
+
+-- a call that no test refuses must answer
+pub must-answer : {A : Type 0} (c : Call A) {w v : List ℕ} {a : A} {r : Outcome A} → Sound w → number c w ≡ 0 → a ≡ c .answer (poolOf w) → Meets c w v r
+    → (r ≡ answered a) × Meets c w v (answered a)
+must-answer c {a = a} {r = r} s pass is m = let q : r ≡ answered a = m .exact s ∙ rw (pass, is) in (q, rw q at m)
 
 -- ---- lists of entries
 
@@ -250,6 +253,20 @@ module _ (k x : ℕ) (w v : List ℕ) (o : Option ℕ) (s : Sound w) (m : Meets 
   replace-absent e =
       let was : view w k ≡ none = sym replace-answer ∙ e in
       (was, m .still s (rw (member-view w k, was)))
+
+module _ (k : ℕ) (w : List ℕ) (a : Found) (s : Sound w) (seen : Meets (mapGet k) w w (answered a)) where
+  -- get, then replace: with the cursor closed it must answer, for get's answer says that the head fits and the pool is a map
+  pub get-replaced : (x old : ℕ) {v : List ℕ} {r : Outcome (Option ℕ)} → a .value ≡ some old → openWord w ≡ 0 → Meets (mapReplace k x) w v r
+      → (r ≡ answered (some old)) × Mutated (view w) (view v) k old x
+  get-replaced x old {v} e shut stored =
+      let fits = passes-reading mapKind w (answered-number (mapGet k) w w a s seen) in
+      let pass : number (mapReplace k x) w ≡ 0 = rw (fits .0, fits .1, shut) in
+      let told = must-answer (mapReplace k x) s pass (sym e ∙ get-answer k w w a s seen) stored in
+      (told .0, replace-mutated k x w v (some old) s (told .1) old refl)
+
+  -- get alone: nothing stored
+  pub get-kept : (old : ℕ) → a .value ≡ some old → Mutated (view w) (view w) k old old
+  get-kept old e = let is = sym (get-answer k w w a s seen) ∙ e in record { first = is; second = is; rest = λ j. refl }
 
 -- ---- make (the source's `new` and `default`) and clear, copy, count, is-empty: of a map or a set
 

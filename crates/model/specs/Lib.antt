@@ -29,6 +29,11 @@ pub mod MapCalls
 pub mod SetCalls
 pub mod ListCalls
 pub mod CursorCalls
+pub mod Playback
+-- what holds over all calls: any two outcomes agree; a season of use
+pub mod Agree
+pub mod Reached
+pub mod Season
 -- the source's own words
 pub mod Source
 -- "Bench cases"
