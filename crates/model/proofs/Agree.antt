@@ -23,7 +23,7 @@ use Rattle.model.specs.Agree.{Tells, Agree, Determined, MakesDetermined,
 use Rattle.model.proofs.Cases.{either, either-zero}
 use Rattle.model.proofs.Alike.{alike}
 
-alike-self : (w v : List ℕ) → w ≡ v → Alike w v
+pub alike-self : (w v : List ℕ) → w ≡ v → Alike w v
 alike-self w v e = rw e (record { long = refl; front = refl; pages = λ p t. record { height = refl; own = refl; children = λ l. refl } })
 
 module _ {R A : Type 0} (of : R → Outcome A) (tells : Tells of) where
@@ -100,7 +100,7 @@ checks-determined of tells w r s a b =
 
 -- ---- lent slices
 
-shortest-same : (cs ds : List Column) → LentSame cs ds → shortest cs ≡ shortest ds
+pub shortest-same : (cs ds : List Column) → LentSame cs ds → shortest cs ≡ shortest ds
 shortest-same [] [] l = refl
 shortest-same [] (d ∷ ds) l = absurd l
 shortest-same (c ∷ cs) [] l = absurd l
@@ -116,18 +116,18 @@ left-same f [] ds l a b = tt
 left-same f (c ∷ cs) [] l a b = tt
 left-same f (c ∷ cs) (d ∷ ds) l a b = (a .0 ∙ ap₂ f (l .0) (l .1) ∙ sym (b .0), left-same f cs ds (l .2) (a .1) (b .1))
 
-kept-same : (cs ds : List Column) → LentSame cs ds → All (λ c. c .after ≡ c .before) cs → All (λ c. c .after ≡ c .before) ds → LeftSame cs ds
+pub kept-same : (cs ds : List Column) → LentSame cs ds → All (λ c. c .after ≡ c .before) cs → All (λ c. c .after ≡ c .before) ds → LeftSame cs ds
 kept-same cs ds = left-same (λ part before. before) cs ds
 
 -- entries by the shortest slice, written to each
-written-same : (es : ℕ → List Entry) (cs ds : List Column) → LentSame cs ds → All (λ c. c .after ≡ written (map (c .part) (es (shortest cs))) (c .before)) cs
+pub written-same : (es : ℕ → List Entry) (cs ds : List Column) → LentSame cs ds → All (λ c. c .after ≡ written (map (c .part) (es (shortest cs))) (c .before)) cs
     → All (λ c. c .after ≡ written (map (c .part) (es (shortest ds))) (c .before)) ds → LeftSame cs ds
 written-same es cs ds l a b =
     left-same (λ part before. written (map part (es (shortest cs))) before) cs ds l a
     (subst (λ (n : ℕ). All (λ c. c .after ≡ written (map (c .part) (es n)) (c .before)) ds) (sym (shortest-same cs ds l)) b)
 
 module _ {R : Type 0} (of : R → Outcome ℕ) (tells : Tells of) where
-  same-count : {r s : R} (es : ℕ → List Entry) (cs ds : List Column) → LentSame cs ds → of r ≡ answered (length (es (shortest cs)))
+  pub same-count : {r s : R} (es : ℕ → List Entry) (cs ds : List Column) → LentSame cs ds → of r ≡ answered (length (es (shortest cs)))
       → of s ≡ answered (length (es (shortest ds))) → r ≡ s
   same-count es cs ds l a b = same-given of tells a (b ∙ ap (λ (n : ℕ). answered (length (es n))) (sym (shortest-same cs ds l)))
 

@@ -38,6 +38,7 @@ pub mod Alike
 pub mod Meets
 -- any two outcomes agree
 pub mod Agree
+pub mod Unread
 -- a season of use
 pub mod Season
 -- the source's clauses, of the calls

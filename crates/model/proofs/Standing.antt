@@ -1,7 +1,7 @@
 -- What reading finds, and what writing has to show: the tree that is read stands in the pages; a tree that stands in pages is read from them, its heights
--- are right, and whoever changes none of its pages changes nothing of it.
+-- are right, and pages that say the same hold it too: whoever changes none of its pages changes nothing of it.
 -- Assumes nothing.
-use mathlib.Core.Path.{_≡_, refl, ap, ap₂, subst, _∙_}
+use mathlib.Core.Path.{_≡_, refl, sym, ap, ap₂, subst, _∙_}
 use mathlib.Core.List.{List, [], _∷_, _++_, map}
 use Prim.Native.Nat.{ℕ, zero, suc, pred, _+_, _<_}
 use native.Mathlib.Omega.{arith}
@@ -9,7 +9,7 @@ use lib.ListN.{length, take, drop, set, length-map}
 use Rattle.model.specs.Lists.{splice, All, sum}
 use Rattle.model.specs.Layout.{mostEntries}
 use Rattle.model.specs.Tree.{Tree, Shaped, Entry, times}
-use Rattle.model.specs.Page.{childrenOf, readTree, Heights}
+use Rattle.model.specs.Page.{heightOf, childrenOf, nodeOf, Holds, readTree, Heights}
 use Rattle.model.specs.Standing.{Stands, rootOf, Standing}
 use Rattle.model.proofs.Cases.{same-self}
 use Rattle.model.proofs.Lists.{splice-one, all-append, all-take, all-drop, all-map, all-image, all-any, all-both}
@@ -85,24 +85,38 @@ standing-heights m pages (suc (suc h)) t a = (
       (all-map (Standing m pages (suc h)) _ (t .children) (standing-heights m pages (suc h)) (a .1))),
 )
 
--- who changes none of its pages changes nothing of it
+-- pages that say the same hold the same tree
 module _ (m : ℕ) (pages pages′ : ℕ → List ℕ) where
-  all-frame : (h : ℕ) → ((t : Tree h) → ((q : ℕ) → 0 < times q h t → pages q ≡ pages′ q) → Standing m pages h t → Standing m pages′ h t)
-      → (ts : List (Tree h)) → ((q : ℕ) → 0 < sum (times q h) ts → pages q ≡ pages′ q) → All (Standing m pages h) ts → All (Standing m pages′ h) ts
-  all-frame h one [] e a = tt
-  all-frame h one (t ∷ ts) e a = (one t (λ q l. e q (omega arith)) (a .0), all-frame h one ts (λ q l. e q (omega arith)) (a .1))
+  abbrev Says : ℕ → Type 0
+  Says q = Holds (mostEntries m) (heightOf (pages′ q)) (nodeOf (mostEntries m) 0 (pages′ q)) (pages q)
 
-  pub standing-frame : (h : ℕ) (t : Tree h) → ((q : ℕ) → 0 < times q h t → pages q ≡ pages′ q) → Standing m pages h t → Standing m pages′ h t
+  all-alike : (h : ℕ) → ((t : Tree h) → ((q : ℕ) → 0 < times q h t → Says q) → Standing m pages h t → Standing m pages′ h t)
+      → (ts : List (Tree h)) → ((q : ℕ) → 0 < sum (times q h) ts → Says q) → All (Standing m pages h) ts → All (Standing m pages′ h) ts
+  all-alike h one [] e a = tt
+  all-alike h one (t ∷ ts) e a = (one t (λ q l. e q (omega arith)) (a .0), all-alike h one ts (λ q l. e q (omega arith)) (a .1))
+
+  pub standing-alike : (h : ℕ) (t : Tree h) → ((q : ℕ) → 0 < times q h t → Says q) → Standing m pages h t → Standing m pages′ h t
   unfolding Standing times
-  standing-frame zero t e a = tt
-  standing-frame (suc h) t e a =
-      let here : pages (t .page) ≡ pages′ (t .page) = e (t .page) (omega (arith, same-self (t .page))) in (
-        record { height = rw (← here) (a .0 .height); own = rw (← here) (a .0 .own); children = λ l. rw (← here) (a .0 .children l) },
-        all-frame h (standing-frame h) (t .children) (λ q l. e q (omega arith)) (a .1),
+  standing-alike zero t e a = tt
+  standing-alike (suc h) t e a =
+      let says = e (t .page) (omega (arith, same-self (t .page))) in (
+        record {
+          height = sym (says .height) ∙ a .0 .height;
+          own = sym (says .own) ∙ a .0 .own;
+          children = λ l. sym (says .children (omega (arith, says .height, a .0 .height))) ∙ a .0 .children l;
+        },
+        all-alike h (standing-alike h) (t .children) (λ q l. e q (omega arith)) (a .1),
       )
 
+  same-says : (q : ℕ) → pages q ≡ pages′ q → Says q
+  same-says q e = rw e (record { height = refl; own = refl; children = λ l. refl })
+
+  -- who changes none of its pages changes nothing of it
+  pub standing-frame : (h : ℕ) (t : Tree h) → ((q : ℕ) → 0 < times q h t → pages q ≡ pages′ q) → Standing m pages h t → Standing m pages′ h t
+  standing-frame h t e = standing-alike h t (λ q l. same-says q (e q l))
+
   pub all-standing : (h : ℕ) (ts : List (Tree h)) → ((q : ℕ) → 0 < sum (times q h) ts → pages q ≡ pages′ q) → All (Standing m pages h) ts → All (Standing m pages′ h) ts
-  all-standing h ts = all-frame h (standing-frame h) ts
+  all-standing h ts e = all-alike h (standing-alike h) ts (λ q l. same-says q (e q l))
 
   -- trees with some in the place of one of them
   pub splice-standing : (h i : ℕ) (cs ts : List (Tree h)) → ((q : ℕ) → 0 < sum (times q h) (take i ts) + sum (times q h) (drop (suc i) ts) → pages q ≡ pages′ q)

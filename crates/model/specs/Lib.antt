@@ -30,8 +30,9 @@ pub mod SetCalls
 pub mod ListCalls
 pub mod CursorCalls
 pub mod Playback
--- what holds over all calls: any two outcomes agree; a season of use
+-- what holds over all calls: any two outcomes agree, and no call reads the words that are free; a season of use
 pub mod Agree
+pub mod Unread
 pub mod Reached
 pub mod Season
 -- the source's own words

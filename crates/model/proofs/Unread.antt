@@ -1,0 +1,198 @@
+-- No call reads the words that document 01 frees: a pool that differs from a sound one in those words alone is sound and holds the same, and a call's answer and what it leaves are the same again.
+-- Assumes nothing.
+use mathlib.Core.Path.{_≡_, refl, sym, ap, ap₂, _∙_}
+use mathlib.Core.List.{List, [], _∷_, _++_}
+use Prim.Native.Nat.{ℕ, suc, _+_, _<_}
+use native.Mathlib.Omega.{arith}
+use lib.ListN.{length, take, drop, getD, length-take, length-drop}
+use lib.Seq.{getD-take, getD-drop, ext-getD}
+use Rattle.model.specs.Layout.{least, headWords, mapWords, firstWord, pagesIn, word}
+use Rattle.model.specs.Head.{headed, kindWord, openWord}
+use Rattle.model.specs.PageMap.{mapOf}
+use Rattle.model.specs.Tree.{Entry, meets}
+use Rattle.model.specs.Page.{pageOf}
+use Rattle.model.specs.Bound.{Bound}
+use Rattle.model.specs.Entries.{gap, shut}
+use Rattle.model.specs.Pool.{Pool, poolOf, heldBy, gapBy, withCursor, made}
+use Rattle.model.specs.Sound.{Sound}
+use Rattle.model.specs.Written.{Written}
+use Rattle.model.specs.Alike.{Alike}
+use Rattle.model.specs.Refusal.{Test, unfit, refusal}
+use Rattle.model.specs.Call.{Call, Outcome, refused, answered, given, number}
+use Rattle.model.specs.PoolCalls.{makeTests, clearTests, copyTests, copied}
+use Rattle.model.specs.MapCalls.{readTests, changeTests}
+use Rattle.model.specs.ListCalls.{Column, listTests, Lists}
+use Rattle.model.specs.CursorCalls.{openTests, cursorTests}
+use Rattle.model.specs.Unread.{Unread, ListsUnread, PlaysUnread, MakesUnread, CopiesUnread}
+use Rattle.model.proofs.Cases.{either-zero}
+use Rattle.model.proofs.Standing.{standing-alike}
+use Rattle.model.proofs.Right.{sound-right}
+use Rattle.model.proofs.Alike.{alike}
+use Rattle.model.proofs.Copy.{copy-sound, copy-pool}
+use Rattle.model.proofs.Agree.{alike-self, shortest-same, kept-same, written-same, same-count, lists-determined}
+use Rattle.model.proofs.Written.{sound-written, written-sound, written-pool}
+
+module _ (w x : List ℕ) (s : Sound w) (k : Alike w x) where
+  front-word : (i : ℕ) → i < firstWord 0 → word x i ≡ word w i
+  front-word i l = sym (getD-take (firstWord 0) x i 0 l) ∙ ap (λ (f : List ℕ). getD f i 0) (sym (k .front)) ∙ getD-take (firstWord 0) w i 0 l
+
+  map-same : mapOf x ≡ mapOf w
+  unfolding mapOf
+  map-same =
+      ext-getD 0 (mapOf x) (mapOf w) (simp (length-take, length-drop, k .long))
+      (λ i h.
+      let l : i < mapWords = omega (arith, simp length-take at h) in
+      getD-take mapWords (drop headWords x) i 0 l ∙ getD-drop headWords x i 0 ∙ front-word (headWords + i) (omega arith)
+      ∙ sym (getD-take mapWords (drop headWords w) i 0 l ∙ getD-drop headWords w i 0))
+
+  alike-written : Written x (poolOf w)
+  unfolding meets
+  alike-written =
+      let a = sound-written w s in
+      let r = sound-right w s in
+      record {
+        long = sym (k .long) ∙ a .long;
+        head = cc (
+          a .head,
+          front-word 0 (omega arith),
+          front-word 1 (omega arith),
+          front-word 2 (omega arith),
+          front-word 3 (omega arith),
+          front-word 4 (omega arith),
+          front-word 5 (omega arith),
+          front-word 6 (omega arith),
+          front-word 7 (omega arith),
+          front-word 8 (omega arith),
+        );
+        spare = λ i b l. front-word i (omega arith) ∙ a .spare i b l;
+        bits = λ q. rw map-same (a .bits q);
+        stands =
+            standing-alike least (pageOf w) (pageOf x) (poolOf w .whole .levels) (poolOf w .whole .tree)
+            (λ q l. k .pages q (omega (arith, a .bits q, r .once q))) (a .stands);
+      }
+
+  pub alike-sound : Sound x
+  alike-sound = written-sound x (poolOf w) (sound-right w s) alike-written
+
+  pub alike-pool : poolOf x ≡ poolOf w
+  alike-pool = written-pool x (poolOf w) (sound-right w s) alike-written
+
+  head-same : (headed x ≡ headed w) × (kindWord x ≡ kindWord w) × (openWord x ≡ openWord w)
+  head-same = (alike-sound .head ∙ sym (s .head), front-word 8 (omega arith), front-word 5 (omega arith))
+
+-- ---- the calls
+
+-- tests that look at the head alone; so do those of every call
+abbrev pub AtHead : (List ℕ → List Test) → Type 0
+AtHead tests = (w x : List ℕ) → (headed x ≡ headed w) × (kindWord x ≡ kindWord w) × (openWord x ≡ openWord w) → tests x ≡ tests w
+
+-- count and is-empty
+pub unfit-head : AtHead (λ w. unfit w ∷ [])
+unfit-head w x h = rw (h .0)
+
+-- get and contains
+pub reading-head : (kind : ℕ) → AtHead (readTests kind)
+reading-head kind w x h = rw (h .0, h .1)
+
+-- insert, replace and remove
+pub changing-head : (kind : ℕ) → AtHead (changeTests kind)
+changing-head kind w x h = rw (h .0, h .1, h .2)
+
+-- opening, and the cursor's other calls
+pub opening-head : (kind : ℕ) → AtHead (openTests kind)
+opening-head kind w x h = rw (h .0, h .1, h .2)
+
+pub cursor-head : AtHead cursorTests
+cursor-head w x h = rw (h .0, h .1, h .2)
+
+-- lists
+pub listing-head : (kind lower upper : ℕ) → AtHead (listTests kind lower upper)
+listing-head kind lower upper w x h = rw (h .0, h .1)
+
+pub unread : {A : Type 0} (c : Call A) → AtHead (c .early) → Unread c
+unread c at-head w x v u r s sw k vs us a b =
+    let sx = alike-sound w x sw k in
+    let pool = alike-pool w x sw k in
+    let tests : number c x ≡ number c w = ap₂ (λ (e l : List Test). refusal (e ++ l)) (at-head w x (head-same w x sw k)) (ap (c .late) pool) in (
+      a .exact sw ∙ sym (b .exact sx ∙ ap₂ given tests (ap (c .answer) pool)),
+      alike v u vs us (a .sound sw) (b .sound sx) (a .holds sw ∙ sym (b .holds sx ∙ rw (tests, pool))),
+    )
+
+-- a list reads the pool alone, so one of the other pool is one of this
+lists-moved : {tests tests′ : List Test} {low high : Bound} {w x : List ℕ} {ds : List Column} {s : Outcome ℕ} → Sound x → poolOf x ≡ poolOf w → tests ≡ tests′
+    → Lists tests low high x ds s → Lists tests′ low high w ds s
+lists-moved sx pool same b = record {
+  long = b .long;
+  early = rw same at (b .early);
+  late = rw same at (b .late);
+  kept = b .kept;
+  exact = λ sw. rw (same, pool) at (b .exact sx);
+  writes = λ sw. rw (same, pool) at (b .writes sx);
+}
+
+pub lists-unread : ListsUnread
+lists-unread kind lower from upper to w x cs ds r s sw k l a b =
+    let moved = lists-moved (alike-sound w x sw k) (alike-pool w x sw k) (listing-head kind lower upper w x (head-same w x sw k)) b in
+    let both = lists-determined (λ o. o) (λ r s e. e) kind lower from upper to w cs ds r s l a moved in
+    (both .answers sw, both .words sw)
+
+pub plays-unread : PlaysUnread
+plays-unread w x v u cs ds r s sw k l vs us a b =
+    let p = poolOf w in
+    let es : ℕ → List Entry = λ n. take n (drop (gapBy p) (heldBy p)) in
+    let sx = alike-sound w x sw k in
+    let pool = alike-pool w x sw k in
+    let tests = cursor-head w x (head-same w x sw k) in
+    either-zero (refusal (cursorTests w))
+    (λ z.
+    let y : refusal (cursorTests x) ≡ 0 = ap refusal tests ∙ z in
+    let left = ap (λ (n : ℕ). withCursor p (gap (gapBy p + length (es n)))) (shortest-same cs ds l) in (
+      same-count (λ o. o) (λ r s e. e) es cs ds l (a .exact sw z) (rw pool at (b .exact sx y)),
+      alike v u vs us (a .sound sw) (b .sound sx) (a .holds sw z ∙ left ∙ sym (rw pool at (b .holds sx y))),
+      written-same es cs ds l (a .writes sw z) (rw pool at (b .writes sx y)),
+    ))
+    (λ n e.
+    let f : refusal (cursorTests x) ≡ suc n = ap refusal tests ∙ e in
+    let c = a .kept (suc n) (a .early n e) in
+    let d = b .kept (suc n) (b .early n f) in
+    (a .early n e ∙ sym (b .early n f), rw (c .0, d .0) k, kept-same cs ds l (c .1) (d .1)))
+
+-- make and clear
+makes-unread : (tests : List ℕ → List Test) (kind : List ℕ → ℕ) → ((w x : List ℕ) → Sound w → Alike w x → (tests x ≡ tests w) × (kind x ≡ kind w)) → MakesUnread tests kind
+makes-unread tests kind head w x v u r s sw k vs us a b =
+    let h = head w x sw k in
+    let same : s ≡ r = b .exact ∙ ap (λ (ts : List Test). given (refusal ts) tt) (h .0) ∙ sym (a .exact) in (
+      sym same,
+      either-zero (refusal (tests w))
+          (λ z.
+          let done : r ≡ answered tt = a .exact ∙ ap (λ (n : ℕ). given n tt) z in
+          let c = a .makes done in
+          let d = b .makes (same ∙ done) in
+          alike v u vs us (c .0) (d .0) (c .1 ∙ ap₂ (λ (n : ℕ). made (pagesIn n)) (k .long) (sym (h .1)) ∙ sym (d .1)))
+          (λ n e.
+          let none : r ≡ refused (suc n) = a .exact ∙ ap (λ (n : ℕ). given n tt) e in
+          rw (a .kept (suc n) none, b .kept (suc n) (same ∙ none)) k),
+    )
+
+pub make-unread : (kind : ℕ) → MakesUnread (makeTests kind) (λ w. kind)
+make-unread kind = makes-unread (makeTests kind) (λ w. kind) (λ w x sw k. (rw (k .long), refl))
+
+pub clear-unread : MakesUnread clearTests kindWord
+clear-unread = makes-unread clearTests kindWord (λ w x sw k. let h = head-same w x sw k in (rw (h .0, h .2), h .1))
+
+pub copy-unread : CopiesUnread
+copy-unread w x destination v u r s sw k vs us a b =
+    let same : s ≡ r = b .exact ∙ rw (head-same w x sw k .0, ← k .long) (sym (a .exact)) in (
+      sym same,
+      either-zero (refusal (copyTests w destination))
+          (λ z.
+          let done : r ≡ answered tt = a .exact ∙ ap (λ (n : ℕ). given n tt) z in
+          let sx = alike-sound w x sw k in
+          let c = a .copies done in
+          let d = b .copies (same ∙ done) in
+          let pools : poolOf (copied w) ≡ poolOf (copied x) = copy-pool w sw ∙ ap (λ (p : Pool). withCursor p shut) (sym (alike-pool w x sw k)) ∙ sym (copy-pool x sx) in
+          alike v u vs us (rw c (copy-sound w sw)) (rw d (copy-sound x sx)) (rw (c, d) pools))
+          (λ n e.
+          let none : r ≡ refused (suc n) = a .exact ∙ ap (λ (n : ℕ). given n tt) e in
+          alike-self v u (a .kept (suc n) none ∙ sym (b .kept (suc n) (same ∙ none)))),
+    )
