@@ -3,7 +3,7 @@
 use mathlib.Core.Path.{_≡_, refl, sym, ap, ap₂, subst, _∙_}
 use mathlib.Core.Bool.{Bool, true}
 use mathlib.Core.List.{List, [], _∷_, map}
-use Prim.Native.Nat.{ℕ, suc, min, _+_}
+use Prim.Native.Nat.{ℕ, zero, suc, min, _+_}
 use native.Mathlib.Omega.{arith}
 use lib.ListN.{length, take, drop}
 use Rattle.model.specs.Lists.{All}
@@ -58,38 +58,29 @@ module _ {R A : Type 0} (of : R → Outcome A) (tells : Tells of) where
 
 -- ---- exact on any words
 
+-- two that are given the same number: both answered, or both refused
+pub by-given : {C : Type 0} (n : ℕ) {r s : Outcome (Unit {0})} → r ≡ given n tt → s ≡ given n tt → (r ≡ answered tt → s ≡ answered tt → C)
+    → ((m : ℕ) → r ≡ refused m → s ≡ refused m → C) → C
+by-given zero a b answer refuse = answer a b
+by-given (suc n) a b answer refuse = refuse (suc n) a b
+
 module _ {R : Type 0} (of : R → Outcome (Unit {0})) (tells : Tells of) where
   pub makes-determined : (tests : List ℕ → List Test) (kind : List ℕ → ℕ) → MakesDetermined tests kind of
-  makes-determined tests kind w v u r s vs us a b =
-      (same-given of tells (a .exact) (b .exact), near, λ n e. a .kept n e ∙ sym (b .kept n (sym same ∙ e)))
-    where
-      same : of r ≡ of s
-      same = a .exact ∙ sym (b .exact)
-
-      near : Alike v u
-      near =
-          either-zero (refusal (tests w))
-          (λ z.
-          let done : of r ≡ answered tt = a .exact ∙ ap (λ (n : ℕ). given n tt) z in
-          let x = a .makes done in
-          let y = b .makes (sym same ∙ done) in
-          alike v u vs us (x .0) (y .0) (x .1 ∙ sym (y .1)))
-          (λ n e.
-          let none : of r ≡ refused (suc n) = a .exact ∙ ap (λ (n : ℕ). given n tt) e in
-          alike-self v u (a .kept (suc n) none ∙ sym (b .kept (suc n) (sym same ∙ none))))
+  makes-determined tests kind w v u r s vs us a b = (
+    same-given of tells (a .exact) (b .exact),
+    by-given (refusal (tests w)) (a .exact) (b .exact)
+        (λ x y. let c = a .makes x in let d = b .makes y in alike v u vs us (c .0) (d .0) (c .1 ∙ sym (d .1)))
+        (λ n x y. alike-self v u (a .kept n x ∙ sym (b .kept n y))),
+    λ n x. a .kept n x ∙ sym (b .kept n (b .exact ∙ sym (a .exact) ∙ x)),
+  )
 
   pub copies-determined : CopiesDetermined of
-  copies-determined source destination v u r s a b =
-      let same : of r ≡ of s = a .exact ∙ sym (b .exact) in (
-        tells r s same,
-        either-zero (refusal (copyTests source destination))
-            (λ z.
-            let done : of r ≡ answered tt = a .exact ∙ ap (λ (n : ℕ). given n tt) z in
-            a .copies done ∙ sym (b .copies (sym same ∙ done)))
-            (λ n e.
-            let none : of r ≡ refused (suc n) = a .exact ∙ ap (λ (n : ℕ). given n tt) e in
-            a .kept (suc n) none ∙ sym (b .kept (suc n) (sym same ∙ none))),
-      )
+  copies-determined source destination v u r s a b = (
+    same-given of tells (a .exact) (b .exact),
+    by-given (refusal (copyTests source destination)) (a .exact) (b .exact)
+        (λ x y. a .copies x ∙ sym (b .copies y))
+        (λ n x y. a .kept n x ∙ sym (b .kept n y)),
+  )
 
 pub checks-determined : {R : Type 0} (of : R → Bool) → Tells of → ChecksDetermined of
 checks-determined of tells w r s a b =

@@ -18,7 +18,7 @@ use Rattle.model.specs.Sound.{Sound}
 use Rattle.model.specs.Written.{Written}
 use Rattle.model.specs.Alike.{Alike}
 use Rattle.model.specs.Refusal.{Test, unfit, refusal}
-use Rattle.model.specs.Call.{Call, Outcome, refused, answered, given, number}
+use Rattle.model.specs.Call.{Call, Outcome, given, number}
 use Rattle.model.specs.PoolCalls.{makeTests, clearTests, copyTests, copied}
 use Rattle.model.specs.MapCalls.{readTests, changeTests}
 use Rattle.model.specs.ListCalls.{Column, listTests, Lists}
@@ -29,7 +29,7 @@ use Rattle.model.proofs.Standing.{standing-alike}
 use Rattle.model.proofs.Right.{sound-right}
 use Rattle.model.proofs.Alike.{alike}
 use Rattle.model.proofs.Copy.{copy-sound, copy-pool}
-use Rattle.model.proofs.Agree.{alike-self, shortest-same, kept-same, written-same, same-count, lists-determined}
+use Rattle.model.proofs.Agree.{alike-self, by-given, shortest-same, kept-same, written-same, same-count, lists-determined}
 use Rattle.model.proofs.Written.{sound-written, written-sound, written-pool}
 
 module _ (w x : List ℕ) (s : Sound w) (k : Alike w x) where
@@ -161,17 +161,14 @@ plays-unread w x v u cs ds r s sw k l vs us a b =
 makes-unread : (tests : List ℕ → List Test) (kind : List ℕ → ℕ) → ((w x : List ℕ) → Sound w → Alike w x → (tests x ≡ tests w) × (kind x ≡ kind w)) → MakesUnread tests kind
 makes-unread tests kind head w x v u r s sw k vs us a b =
     let h = head w x sw k in
-    let same : s ≡ r = b .exact ∙ ap (λ (ts : List Test). given (refusal ts) tt) (h .0) ∙ sym (a .exact) in (
-      sym same,
-      either-zero (refusal (tests w))
-          (λ z.
-          let done : r ≡ answered tt = a .exact ∙ ap (λ (n : ℕ). given n tt) z in
-          let c = a .makes done in
-          let d = b .makes (same ∙ done) in
+    let given-same = b .exact ∙ ap (λ (ts : List Test). given (refusal ts) tt) (h .0) in (
+      a .exact ∙ sym given-same,
+      by-given (refusal (tests w)) (a .exact) given-same
+          (λ y z.
+          let c = a .makes y in
+          let d = b .makes z in
           alike v u vs us (c .0) (d .0) (c .1 ∙ ap₂ (λ (n : ℕ). made (pagesIn n)) (k .long) (sym (h .1)) ∙ sym (d .1)))
-          (λ n e.
-          let none : r ≡ refused (suc n) = a .exact ∙ ap (λ (n : ℕ). given n tt) e in
-          rw (a .kept (suc n) none, b .kept (suc n) (same ∙ none)) k),
+          (λ n y z. rw (a .kept n y, b .kept n z) k),
     )
 
 pub make-unread : (kind : ℕ) → MakesUnread (makeTests kind) (λ w. kind)
@@ -182,17 +179,12 @@ clear-unread = makes-unread clearTests kindWord (λ w x sw k. let h = head-same 
 
 pub copy-unread : CopiesUnread
 copy-unread w x destination v u r s sw k vs us a b =
-    let same : s ≡ r = b .exact ∙ rw (head-same w x sw k .0, ← k .long) (sym (a .exact)) in (
-      sym same,
-      either-zero (refusal (copyTests w destination))
-          (λ z.
-          let done : r ≡ answered tt = a .exact ∙ ap (λ (n : ℕ). given n tt) z in
-          let sx = alike-sound w x sw k in
-          let c = a .copies done in
-          let d = b .copies (same ∙ done) in
-          let pools : poolOf (copied w) ≡ poolOf (copied x) = copy-pool w sw ∙ ap (λ (p : Pool). withCursor p shut) (sym (alike-pool w x sw k)) ∙ sym (copy-pool x sx) in
-          alike v u vs us (rw c (copy-sound w sw)) (rw d (copy-sound x sx)) (rw (c, d) pools))
-          (λ n e.
-          let none : r ≡ refused (suc n) = a .exact ∙ ap (λ (n : ℕ). given n tt) e in
-          alike-self v u (a .kept (suc n) none ∙ sym (b .kept (suc n) (same ∙ none)))),
+    let sx = alike-sound w x sw k in
+    let tests : copyTests x destination ≡ copyTests w destination = rw (head-same w x sw k .0, ← k .long) in
+    let given-same = b .exact ∙ ap (λ (ts : List Test). given (refusal ts) tt) tests in
+    let pools : poolOf (copied w) ≡ poolOf (copied x) = copy-pool w sw ∙ ap (λ (p : Pool). withCursor p shut) (sym (alike-pool w x sw k)) ∙ sym (copy-pool x sx) in (
+      a .exact ∙ sym given-same,
+      by-given (refusal (copyTests w destination)) (a .exact) given-same
+          (λ y z. alike v u vs us (rw (a .copies y) (copy-sound w sw)) (rw (b .copies z) (copy-sound x sx)) (rw (a .copies y, b .copies z) pools))
+          (λ n y z. alike-self v u (a .kept n y ∙ sym (b .kept n z))),
     )
