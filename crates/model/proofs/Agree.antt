@@ -7,6 +7,7 @@ use Prim.Native.Nat.{ℕ, zero, suc, min, _+_}
 use native.Mathlib.Omega.{arith}
 use lib.ListN.{length, take, drop}
 use Rattle.model.specs.Lists.{All}
+use Rattle.model.specs.Layout.{least}
 use Rattle.model.specs.Tree.{Entry}
 use Rattle.model.specs.Bound.{boundOf}
 use Rattle.model.specs.Entries.{between, gap}
@@ -21,10 +22,11 @@ use Rattle.model.specs.CursorCalls.{cursorTests}
 use Rattle.model.specs.Playback.{played}
 use Rattle.model.specs.Agree.{Tells, Agree, Determined, MakesDetermined, CopiesDetermined, ChecksDetermined, LentSame, LeftSame, ListsDetermined, PlaysDetermined}
 use Rattle.model.proofs.Cases.{either, either-zero}
+use Rattle.model.proofs.Standing.{page-alike-self}
 use Rattle.model.proofs.Alike.{alike}
 
 pub alike-self : (w v : List ℕ) → w ≡ v → Alike w v
-alike-self w v e = rw e (record { long = refl; front = refl; pages = λ p t. record { height = refl; own = refl; children = λ l. refl } })
+alike-self w v e = rw e (record { long = refl; front = refl; pages = λ p t. page-alike-self least refl })
 
 module _ {R A : Type 0} (of : R → Outcome A) (tells : Tells of) where
   -- two that are given the same

@@ -23,22 +23,22 @@ use Rattle.model.proofs.Written.{sound-written}
 
 -- ---- one tree in two pools
 
-module _ (pages pages′ : ℕ → List ℕ) (p : ℕ) where
-  page-alike : (h : ℕ) (t : Tree (suc h)) → p ≡ t .page → Stands least pages h t → Stands least pages′ h t → AlikePage (pages p) (pages′ p)
+module _ (m : ℕ) (pages pages′ : ℕ → List ℕ) (p : ℕ) where
+  page-alike : (h : ℕ) (t : Tree (suc h)) → p ≡ t .page → Stands m pages h t → Stands m pages′ h t → AlikePage m (pages p) (pages′ p)
   page-alike h t e a b = rw e (record {
     height = a .height ∙ sym (b .height);
     own = a .own ∙ sym (b .own);
     children = λ l. let l′ : 0 < h = rw (b .height) at l in a .children l′ ∙ sym (b .children l′);
   })
 
-  child-alike : (h : ℕ) → ((t : Tree h) → Standing least pages h t → Standing least pages′ h t → 0 < times p h t → AlikePage (pages p) (pages′ p))
-      → (ts : List (Tree h)) → All (Standing least pages h) ts → All (Standing least pages′ h) ts → 0 < sum (times p h) ts → AlikePage (pages p) (pages′ p)
+  child-alike : (h : ℕ) → ((t : Tree h) → Standing m pages h t → Standing m pages′ h t → 0 < times p h t → AlikePage m (pages p) (pages′ p))
+      → (ts : List (Tree h)) → All (Standing m pages h) ts → All (Standing m pages′ h) ts → 0 < sum (times p h) ts → AlikePage m (pages p) (pages′ p)
   child-alike h ih [] a b l = absurd (omega arith)
   child-alike h ih (t ∷ ts) a b l =
       either-lt 0 (times p h t) (ih t (a .0) (b .0)) (λ z. child-alike h ih ts (a .1) (b .1) (omega arith))
 
   -- each page that walking meets
-  pages-alike : (h : ℕ) (t : Tree h) → Standing least pages h t → Standing least pages′ h t → 0 < times p h t → AlikePage (pages p) (pages′ p)
+  pages-alike : (h : ℕ) (t : Tree h) → Standing m pages h t → Standing m pages′ h t → 0 < times p h t → AlikePage m (pages p) (pages′ p)
   unfolding times Standing
   pages-alike zero t a b l = absurd (omega arith)
   pages-alike (suc h) t a b l =
@@ -59,7 +59,7 @@ unfolding meets mapOf
 written-alike w v p ws vs a b = record {
   long = long;
   front = take-add headWords mapWords w ∙ ap₂ _++_ front-head front-map ∙ sym (take-add headWords mapWords v);
-  pages = λ q t. pages-alike (pageOf w) (pageOf v) q (p .whole .levels) (p .whole .tree) (a .stands) (b .stands) (omega (arith, a .bits q));
+  pages = λ q t. pages-alike least (pageOf w) (pageOf v) q (p .whole .levels) (p .whole .tree) (a .stands) (b .stands) (omega (arith, a .bits q));
 }
   where
     long : length w ≡ length v

@@ -41,32 +41,32 @@ module _ {A : Type 0} (f : A → ℕ) where
 
 -- ---- routes in any pages
 
-module _ (pages : ℕ → List ℕ) where
+module _ (m : ℕ) (pages : ℕ → List ℕ) where
   abbrev child : ℕ → ℕ → ℕ
-  child p i = childIn (mostEntries least) (pages p) i
+  child p i = childIn (mostEntries m) (pages p) i
 
   abbrev below : (h p i : ℕ) → Tree h
-  below h p i = readTree least pages h (child p i)
+  below h p i = readTree m pages h (child p i)
 
   -- how often walking the h levels from p down meets q
   abbrev met : ℕ → ℕ → ℕ → ℕ
-  met q h p = times q h (readTree least pages h p)
+  met q h p = times q h (readTree m pages h p)
 
   met-suc : (q h p : ℕ) → met q (suc h) p ≡ same q p + sum (times q h) (tab (suc (countOf (pages p))) (below h p))
   unfolding times readTree childrenOf
-  met-suc q h p = ap (λ (ts : List (Tree h)). same q p + sum (times q h) ts) (map-tab (readTree least pages h) (suc (countOf (pages p))) (child p))
+  met-suc q h p = ap (λ (ts : List (Tree h)). same q p + sum (times q h) ts) (map-tab (readTree m pages h) (suc (countOf (pages p))) (child p))
 
   met-child : (q h p i : ℕ) → i ≤ countOf (pages p) → same q p + met q h (child p i) ≤ met q (suc h) p
   met-child q h p i b = omega (arith, met-suc q h p, sum-term (times q h) (below h p) (suc (countOf (pages p))) i (omega arith))
 
-  child-heights : (h p i : ℕ) → i ≤ countOf (pages p) → Heights least pages (suc h) p → Heights least pages h (child p i)
+  child-heights : (h p i : ℕ) → i ≤ countOf (pages p) → Heights m pages (suc h) p → Heights m pages h (child p i)
   unfolding Heights childrenOf
   child-heights h p i b k =
       let n = suc (countOf (pages p)) in
       let l : i < n = omega arith in
-      rw getD-tab at (all-at (Heights least pages h) (tab n (child p)) i 0 (omega (arith, length-tab n (child p))) (k .1))
+      rw getD-tab at (all-at (Heights m pages h) (tab n (child p)) i 0 (omega (arith, length-tab n (child p))) (k .1))
 
-  leads-met : (h : ℕ) {p q : ℕ} {route : List ℕ} → 1 ≤ h → Heights least pages h p → Leads pages p route q
+  leads-met : (h : ℕ) {p q : ℕ} {route : List ℕ} → 1 ≤ h → Heights m pages h p → Leads m pages p route q
       → (1 ≤ met q h p) × (suc (heightOf (pages q) + length route) ≡ h)
   unfolding Heights
   leads-met zero l k r = absurd (omega arith)
@@ -74,10 +74,10 @@ module _ (pages : ℕ → List ℕ) where
   leads-met (suc h) {p} {q} l k (down {i = i} up b r) =
       let deeper = leads-met h (omega arith) (child-heights h p i b k) r in (omega (arith, met-child q h p i b), omega arith)
 
-  met-leads : (h p q : ℕ) → Heights least pages h p → 1 ≤ met q h p → (1 ≤ h) × (route : List ℕ) × Leads pages p route q
+  met-leads : (h p q : ℕ) → Heights m pages h p → 1 ≤ met q h p → (1 ≤ h) × (route : List ℕ) × Leads m pages p route q
   unfolding Heights times
-  met-leads zero p q k m = absurd (omega arith)
-  met-leads (suc h) p q k m =
+  met-leads zero p q k is-met = absurd (omega arith)
+  met-leads (suc h) p q k is-met =
       either-eq q p
       (λ e. (omega arith, [], rw e here))
       (λ d.
@@ -87,13 +87,13 @@ module _ (pages : ℕ → List ℕ) where
       (omega arith, some .0 ∷ deeper .1, down {route = deeper .1} (omega arith) b (deeper .2)))
 
   -- two routes would meet it twice: at the page and below a child, or below two children
-  leads-once : (h : ℕ) {p q : ℕ} {one other : List ℕ} → 1 ≤ h → Heights least pages h p → met q h p ≤ 1 → Leads pages p one q → Leads pages p other q → one ≡ other
+  leads-once : (h : ℕ) {p q : ℕ} {one other : List ℕ} → 1 ≤ h → Heights m pages h p → met q h p ≤ 1 → Leads m pages p one q → Leads m pages p other q → one ≡ other
   unfolding Heights
-  leads-once zero l k m r t = absurd (omega arith)
-  leads-once (suc h) l k m here here = refl
-  leads-once (suc h) {p} l k m here (down {i = j} up b t) = absurd (omega (arith, met-child p h p j b, same-self p, leads-met h (omega arith) (child-heights h p j b k) t))
-  leads-once (suc h) {p} l k m (down {i = i} up b r) here = absurd (omega (arith, met-child p h p i b, same-self p, leads-met h (omega arith) (child-heights h p i b k) r))
-  leads-once (suc h) {p} {q} l k m (down {i = i} up b r) (down {i = j} up′ c t) =
+  leads-once zero l k few r t = absurd (omega arith)
+  leads-once (suc h) l k few here here = refl
+  leads-once (suc h) {p} l k few here (down {i = j} up b t) = absurd (omega (arith, met-child p h p j b, same-self p, leads-met h (omega arith) (child-heights h p j b k) t))
+  leads-once (suc h) {p} l k few (down {i = i} up b r) here = absurd (omega (arith, met-child p h p i b, same-self p, leads-met h (omega arith) (child-heights h p i b k) r))
+  leads-once (suc h) {p} {q} l k few (down {i = i} up b r) (down {i = j} up′ c t) =
       let one = leads-met h (omega arith) (child-heights h p i b k) r in
       let other = leads-met h (omega arith) (child-heights h p j c k) t in
       either-eq i j
@@ -106,20 +106,20 @@ module _ (w : List ℕ) (s : Sound w) where
   root-levels : min 1 (rootWord w) ≡ min 1 (levelsWord w)
   root-levels = let f = head-facts w (s .head) .rooted in either-eq (countWord w) 0 (λ z. omega (arith, f .0 z)) (λ n. omega (arith, f .1 (omega arith)))
 
-  met-bit : (p : ℕ) → (met (pageOf w) p (levelsWord w) (pred (rootWord w)) ≡ bitAt (mapOf w) p) × (bitAt (mapOf w) p < 2)
+  met-bit : (p : ℕ) → (met least (pageOf w) p (levelsWord w) (pred (rootWord w)) ≡ bitAt (mapOf w) p) × (bitAt (mapOf w) p < 2)
   unfolding meets wholeOf
   met-bit p = (s .met p, bitAt-lt (mapOf w) p)
 
   pub reached-marked : (p : ℕ) (route : List ℕ) → Reached w route p → bitAt (mapOf w) p ≡ 1
-  reached-marked p route r = omega (arith, met-bit p, leads-met (pageOf w) (levelsWord w) (omega (arith, root-levels)) (s .heights) (r .1))
+  reached-marked p route r = omega (arith, met-bit p, leads-met least (pageOf w) (levelsWord w) (omega (arith, root-levels)) (s .heights) (r .1))
 
   pub marked-reached : (p : ℕ) → bitAt (mapOf w) p ≡ 1 → (route : List ℕ) × Reached w route p
   marked-reached p e =
-      let r = met-leads (pageOf w) (levelsWord w) (pred (rootWord w)) p (s .heights) (omega (arith, met-bit p)) in
+      let r = met-leads least (pageOf w) (levelsWord w) (pred (rootWord w)) p (s .heights) (omega (arith, met-bit p)) in
       (r .1, (omega (arith, root-levels), r .2))
 
   pub reached-once : (p : ℕ) (one other : List ℕ) → Reached w one p → Reached w other p → one ≡ other
-  reached-once p one other r t = leads-once (pageOf w) (levelsWord w) (omega (arith, root-levels)) (s .heights) (omega (arith, met-bit p)) (r .1) (t .1)
+  reached-once p one other r t = leads-once least (pageOf w) (levelsWord w) (omega (arith, root-levels)) (s .heights) (omega (arith, met-bit p)) (r .1) (t .1)
 
   pub reached-level : (p : ℕ) (route : List ℕ) → Reached w route p → heightOf (pageOf w p) ≡ 0 → suc (length route) ≡ levelsWord w
-  reached-level p route r z = omega (arith, leads-met (pageOf w) (levelsWord w) (omega (arith, root-levels)) (s .heights) (r .1))
+  reached-level p route r z = omega (arith, leads-met least (pageOf w) (levelsWord w) (omega (arith, root-levels)) (s .heights) (r .1))

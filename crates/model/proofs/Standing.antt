@@ -9,7 +9,8 @@ use lib.ListN.{length, take, drop, set, length-map}
 use Rattle.model.specs.Lists.{splice, All, sum}
 use Rattle.model.specs.Layout.{mostEntries}
 use Rattle.model.specs.Tree.{Tree, Shaped, Entry, times}
-use Rattle.model.specs.Page.{heightOf, childrenOf, nodeOf, Holds, readTree, Heights}
+use Rattle.model.specs.Page.{childrenOf, readTree, Heights}
+use Rattle.model.specs.Alike.{AlikePage}
 use Rattle.model.specs.Standing.{Stands, rootOf, Standing}
 use Rattle.model.proofs.Cases.{same-self}
 use Rattle.model.proofs.Lists.{splice-one, all-append, all-take, all-drop, all-map, all-image, all-any, all-both}
@@ -85,17 +86,17 @@ standing-heights m pages (suc (suc h)) t a = (
       (all-map (Standing m pages (suc h)) _ (t .children) (standing-heights m pages (suc h)) (a .1))),
 )
 
+pub page-alike-self : (m : ℕ) {a b : List ℕ} → a ≡ b → AlikePage m a b
+page-alike-self m e = rw e (record { height = refl; own = refl; children = λ l. refl })
+
 -- pages that say the same hold the same tree
 module _ (m : ℕ) (pages pages′ : ℕ → List ℕ) where
-  abbrev Says : ℕ → Type 0
-  Says q = Holds (mostEntries m) (heightOf (pages′ q)) (nodeOf (mostEntries m) 0 (pages′ q)) (pages q)
-
-  all-alike : (h : ℕ) → ((t : Tree h) → ((q : ℕ) → 0 < times q h t → Says q) → Standing m pages h t → Standing m pages′ h t)
-      → (ts : List (Tree h)) → ((q : ℕ) → 0 < sum (times q h) ts → Says q) → All (Standing m pages h) ts → All (Standing m pages′ h) ts
+  all-alike : (h : ℕ) → ((t : Tree h) → ((q : ℕ) → 0 < times q h t → AlikePage m (pages q) (pages′ q)) → Standing m pages h t → Standing m pages′ h t)
+      → (ts : List (Tree h)) → ((q : ℕ) → 0 < sum (times q h) ts → AlikePage m (pages q) (pages′ q)) → All (Standing m pages h) ts → All (Standing m pages′ h) ts
   all-alike h one [] e a = tt
   all-alike h one (t ∷ ts) e a = (one t (λ q l. e q (omega arith)) (a .0), all-alike h one ts (λ q l. e q (omega arith)) (a .1))
 
-  pub standing-alike : (h : ℕ) (t : Tree h) → ((q : ℕ) → 0 < times q h t → Says q) → Standing m pages h t → Standing m pages′ h t
+  pub standing-alike : (h : ℕ) (t : Tree h) → ((q : ℕ) → 0 < times q h t → AlikePage m (pages q) (pages′ q)) → Standing m pages h t → Standing m pages′ h t
   unfolding Standing times
   standing-alike zero t e a = tt
   standing-alike (suc h) t e a =
@@ -108,15 +109,12 @@ module _ (m : ℕ) (pages pages′ : ℕ → List ℕ) where
         all-alike h (standing-alike h) (t .children) (λ q l. e q (omega arith)) (a .1),
       )
 
-  same-says : (q : ℕ) → pages q ≡ pages′ q → Says q
-  same-says q e = rw e (record { height = refl; own = refl; children = λ l. refl })
-
   -- who changes none of its pages changes nothing of it
   pub standing-frame : (h : ℕ) (t : Tree h) → ((q : ℕ) → 0 < times q h t → pages q ≡ pages′ q) → Standing m pages h t → Standing m pages′ h t
-  standing-frame h t e = standing-alike h t (λ q l. same-says q (e q l))
+  standing-frame h t e = standing-alike h t (λ q l. page-alike-self m (e q l))
 
   pub all-standing : (h : ℕ) (ts : List (Tree h)) → ((q : ℕ) → 0 < sum (times q h) ts → pages q ≡ pages′ q) → All (Standing m pages h) ts → All (Standing m pages′ h) ts
-  all-standing h ts e = all-alike h (standing-alike h) ts (λ q l. same-says q (e q l))
+  all-standing h ts e = all-alike h (standing-alike h) ts (λ q l. page-alike-self m (e q l))
 
   -- trees with some in the place of one of them
   pub splice-standing : (h i : ℕ) (cs ts : List (Tree h)) → ((q : ℕ) → 0 < sum (times q h) (take i ts) + sum (times q h) (drop (suc i) ts) → pages q ≡ pages′ q)

@@ -10,10 +10,10 @@ use Rattle.model.specs.PageMap.{mapOf, bitAt}
 use Rattle.model.specs.Page.{pageOf, heightOf, Holds, nodeOf}
 
 -- the one holds what the other says
-abbrev pub AlikePage : List ℕ → List ℕ → Type 0
-AlikePage a b = Holds (mostEntries least) (heightOf b) (nodeOf (mostEntries least) 0 b) a
+abbrev pub AlikePage : ℕ → List ℕ → List ℕ → Type 0
+AlikePage m a b = Holds (mostEntries m) (heightOf b) (nodeOf (mostEntries m) 0 b) a
 
 pub record Alike (w v : List ℕ) : Type 0 where
   pub long : length w ≡ length v
   pub front : take (firstWord 0) w ≡ take (firstWord 0) v
-  pub pages : (p : ℕ) → bitAt (mapOf w) p ≡ 1 → AlikePage (pageOf w p) (pageOf v p)
+  pub pages : (p : ℕ) → bitAt (mapOf w) p ≡ 1 → AlikePage least (pageOf w p) (pageOf v p)

@@ -7,10 +7,10 @@ use Rattle.model.specs.Head.{rootWord}
 use Rattle.model.specs.Page.{pageOf, countOf, heightOf, childIn}
 
 -- the route leads from page p to page q: a page of height above 0 with c entries has c + 1 children
-pub data Leads (pages : ℕ → List ℕ) : ℕ → List ℕ → ℕ → Type 0 where
-  here : {p : ℕ} → Leads pages p [] p
-  down : {p q i : ℕ} {route : List ℕ} → 1 ≤ heightOf (pages p) → i ≤ countOf (pages p) → Leads pages (childIn (mostEntries least) (pages p) i) route q
-      → Leads pages p (i ∷ route) q
+pub data Leads (m : ℕ) (pages : ℕ → List ℕ) : ℕ → List ℕ → ℕ → Type 0 where
+  here : {p : ℕ} → Leads m pages p [] p
+  down : {p q i : ℕ} {route : List ℕ} → 1 ≤ heightOf (pages p) → i ≤ countOf (pages p) → Leads m pages (childIn (mostEntries m) (pages p) i) route q
+      → Leads m pages p (i ∷ route) q
 
 abbrev pub Reached : List ℕ → List ℕ → ℕ → Type 0
-Reached w route p = (1 ≤ rootWord w) × Leads (pageOf w) (pred (rootWord w)) route p
+Reached w route p = (1 ≤ rootWord w) × Leads least (pageOf w) (pred (rootWord w)) route p

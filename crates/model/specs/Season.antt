@@ -55,7 +55,7 @@ pub data Use (w : List ℕ) : List ℕ → ℕ → ℕ → Type 0 where
   byMake : {v : List ℕ} (kind n : ℕ) → Makes (makeTests kind w) kind w v (refused n) → Use w v 0 0
   byClear : {v : List ℕ} (n : ℕ) → Makes (clearTests w) (kindWord w) w v (refused n) → Use w v 0 0
   byCopyIn : {v : List ℕ} (source : List ℕ) (n : ℕ) → Copies source w v (refused n) → Use w v 0 0
-  -- a pool of either kind
+  -- a pool of either kind; check, copying out and lists are lent the words to be read, so they stay
   byCopyOut : (destination after : List ℕ) (r : Outcome (Unit {0})) → Copies w destination after r → Use w w 0 0
   byCheck : (r : Bool) → Checks w r → Use w w 0 0
   byCount : {v : List ℕ} (r : Outcome ℕ) → Meets poolCount w v r → Use w v 0 0
