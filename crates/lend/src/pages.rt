@@ -2,7 +2,7 @@
 // other: an entry and a child travel by value, one at a time. Every function takes any words; page numbers lie inside the pool.
 ghost use mathlib.Core.Path.{_≡_};
 ghost use mathlib.Core.Logic.{_≢_};
-ghost use mathlib.Core.Bool.{true};
+ghost use mathlib.Core.Bool.{true, false};
 ghost use mathlib.Core.List.{[], _∷_};
 ghost use Prim.Native.Nat.{suc, _+_, _-_, _≤_, _<_};
 ghost use lib.ListN.{length, getD};
@@ -13,7 +13,8 @@ ghost use Rattle.model.specs.Page.{pageOf, countOf, heightOf, entryIn, childIn,
 ghost use Rattle.model.specs.Insert.{cutRight};
 ghost use Rattle.model.specs.Mend.{glue};
 ghost use Rattle.page.specs.Node.{alone, more, wider, less, instead};
-ghost use Rattle.page.specs.Page.{roomAt, holdsAt, fullAt, placeOf};
+ghost use Rattle.page.specs.Runs.{upTo};
+ghost use Rattle.page.specs.Page.{roomAt, holdsAt, fullAt, gapIn, placeOf};
 ghost use Rattle.lend.specs.Pages.{most, keeps, Inside, OnlyPages, nodeIn, Becomes, ChangesIn, KeepsIn, canSplit, SplitsIn, areApart, canPass, PassesIn, MovesIn, canGive, canGet, canJoin, JoinsIn};
 use model::FIRST_PAGE;
 use model::KEPT;
@@ -24,6 +25,7 @@ use page::Change;
 use page::Entry;
 use page::Parting;
 use page::Place;
+use page::Slot;
 
 // Of ten entries, the first that is given away, and the child after it.
 const GIVEN: usize = KEPT + 1;
@@ -39,6 +41,20 @@ pub fn page_at(pool: &[u64], p: usize) -> &[u64]
 {
     let a = FIRST_PAGE + PAGE_WORDS * p;
     &pool[a..a + PAGE_WORDS]
+}
+
+pub fn gap_before(pool: &[u64], p: usize, key: u64) -> Slot
+    requires { ⌜ Inside p (now pool) ⌝ }
+    ensures { λ r. ⌜ r ≡ gapIn most (pageOf (now (pool .entry)) p) (upTo key false) ⌝ }
+{
+    page::gap_before(page_at(pool, p), MOST, key)
+}
+
+pub fn gap_after(pool: &[u64], p: usize, key: u64) -> Slot
+    requires { ⌜ Inside p (now pool) ⌝ }
+    ensures { λ r. ⌜ r ≡ gapIn most (pageOf (now (pool .entry)) p) (upTo key true) ⌝ }
+{
+    page::gap_after(page_at(pool, p), MOST, key)
 }
 
 pub fn find(pool: &[u64], p: usize, key: u64) -> Place
@@ -127,6 +143,31 @@ pub fn insert(
     )
 }
 
+// The same promise as `insert`, for an entry that goes behind the last.
+pub fn put_last(
+    pool: &mut [u64],
+    p: usize,
+    slot: usize,
+    key: u64,
+    value: u64,
+    at: usize,
+    child: u64,
+) -> Change
+    requires { ⌜ Inside p (now pool) ⌝ }
+    ensures { λ r. ⌜ ChangesIn p (roomAt most (pageOf (now (pool .entry)) p) slot at) (more slot (entry key value) at child (nodeIn (now (pool .entry)) p)) (now (pool .entry)) (now (pool .exit)) r ⌝ }
+{
+    let a = FIRST_PAGE + PAGE_WORDS * p;
+    page::put_last(
+        &mut pool[a..a + PAGE_WORDS],
+        MOST,
+        slot,
+        key,
+        value,
+        at,
+        child,
+    )
+}
+
 pub fn remove(pool: &mut [u64], p: usize, slot: usize, at: usize) -> Change
     requires { ⌜ Inside p (now pool) ⌝ }
     ensures { λ r. ⌜ ChangesIn p (holdsAt most (pageOf (now (pool .entry)) p) slot at) (less slot at (nodeIn (now (pool .entry)) p)) (now (pool .entry)) (now (pool .exit)) r ⌝ }
@@ -169,7 +210,7 @@ fn give(pool: &mut [u64], p: usize, q: usize, slot: usize, key: u64, value: u64,
     while j < LEAST {
         let e = wider_entry(pool, p, slot, key, value, GIVEN + j);
         let c = wider_child(pool, p, slot, child, BEHIND + j);
-        insert(pool, q, j, e.key, e.value, j + 1, c);
+        put_last(pool, q, j, e.key, e.value, j + 1, c);
         j += 1;
     }
 }
@@ -341,12 +382,12 @@ fn append(pool: &mut [u64], l: usize, key: u64, value: u64, r: usize)
     let n = count(pool, l);
     let m = count(pool, r);
     let first = child_at(pool, r, 0);
-    insert(pool, l, n, key, value, n + 1, first);
+    put_last(pool, l, n, key, value, n + 1, first);
     let mut j = 0;
     while j < m {
         let e = entry_at(pool, r, j);
         let c = child_at(pool, r, j + 1);
-        insert(pool, l, n + 1 + j, e.key, e.value, n + 2 + j, c);
+        put_last(pool, l, n + 1 + j, e.key, e.value, n + 2 + j, c);
         j += 1;
     }
 }

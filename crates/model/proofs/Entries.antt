@@ -218,15 +218,6 @@ pub has-absent : (k : ℕ) (es : List Entry) → Rising es → has k es ≡ fals
 has-absent k es r n i b q = contrary (rw q at (has-entry i es r b)) n
 
 -- an absent key has one gap
-pub gap-after-absent : (k : ℕ) (es : List Entry) → Rising es → has k es ≡ false → gapAfter k es ≡ gapBefore k es
-gap-after-absent k es r n =
-    let before : ℕ → Bool = λ x. ltb x k in
-    gap-unique (λ x. leb x k) es (gapBefore k es) (gap-le before es)
-    (λ i l. le-leb (keyAt es i) k (omega (arith, ltb-true (keyAt es i) k (gap-front before es i l))))
-    (λ l.
-    let other : keyAt es (gapBefore k es) ≢ k = has-absent k es r n (gapBefore k es) l in
-    lt-leb (keyAt es (gapBefore k es)) k (omega (arith, ltb-false (keyAt es (gapBefore k es)) k (gap-back before es (falls-below k) r (gapBefore k es) (omega arith) l))))
-
 -- ---- lists in two parts
 
 -- a part that is all before is passed; at an entry that is not, the count ends

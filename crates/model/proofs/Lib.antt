@@ -2,8 +2,9 @@
 pub mod Cases
 pub mod Lists
 pub mod Sums
--- the page map and the head
+-- the page map, the bits of a word, and the head
 pub mod PageMap
+pub mod Word
 pub mod Head
 -- the list model
 pub mod Entries

@@ -16,7 +16,7 @@ use Rattle.model.specs.Tree.{Entry, Tree, noEntry, noTree, weave, entrie
 use Rattle.model.specs.Entries.{has, lookup, gapOf, gapBefore}
 use Rattle.model.specs.Gap.{slot, rest, slotAt, restAt, child, childAt, gapPages, gapSlots, depth, seekPages, seekSlots, at, find}
 use Rattle.model.proofs.Cases.{either, either-lt, either-eq}
-use Rattle.model.proofs.Lists.{all-right, all-at, all-map}
+use Rattle.model.proofs.Lists.{all-at, all-map}
 use Rattle.model.proofs.Entries.{Falls, falls-below, rising-left, rising-right, rising-lo, all-under, all-above, gap-le, gap-unique, gap-past, gap-within, lookup-past, lookup-within, has-lookup, has-key, at-true}
 use Rattle.model.proofs.Weave.{left, right, weave-at}
 
@@ -36,19 +36,6 @@ module _ {S : Type 0} (f : S → List Entry) where
   pub child-rising : (ss : List S) (es : List Entry) (i : ℕ) (d : S) → length ss ≡ suc (length es) → i < length ss → Rising (weave f ss es)
       → Rising (f (getD ss i d))
   child-rising ss es i d n b r = rising-left (f (getD ss i d)) (right f (drop i es) (drop (suc i) ss)) (child-on ss es i d n b r)
-
-  -- a page's own entries rise where all that it holds rises
-  all-own : (P : Entry → Type 0) (ss : List S) (es : List Entry) → All P (weave f ss es) → All P es
-  all-own P [] es a = a
-  all-own P (s ∷ ss) [] a = tt
-  all-own P (s ∷ ss) (e ∷ es) a = let b = all-right P (f s) (e ∷ weave f ss es) a in (b .0, all-own P ss es (b .1))
-
-  pub rising-own : (ss : List S) (es : List Entry) → Rising (weave f ss es) → Rising es
-  rising-own [] es r = r
-  rising-own (s ∷ ss) [] r = tt
-  rising-own (s ∷ ss) (e ∷ es) r =
-      let b = rising-right (f s) (e ∷ weave f ss es) r in
-      (all-own (λ x. e .key < x .key) ss es (b .0), rising-own ss es (b .1))
 
   pub child-below : (ss : List S) (es : List Entry) (i : ℕ) (d : S) → length ss ≡ suc (length es) → i < length es → Rising (weave f ss es)
       → All (λ x. x .key < getD es i noEntry .key) (f (getD ss i d))

@@ -1,85 +1,97 @@
--- Runs of words with one more or one less, and the place of a key. Each loop's invariant says that what is left to do still gives what was to be made;
+-- Runs of words with one more or one less. Each loop's invariant says that what is left to do still gives what was to be made;
 -- so each loop has a law for a turn and one for its end.
 -- Assumes nothing.
-use mathlib.Core.Path.{_≡_, refl, sym, ap, _∙_}
-use mathlib.Core.Bool.{cond}
+use mathlib.Core.Path.{_≡_, refl, ap, _∙_}
+use mathlib.Core.Bool.{Bool, true, false}
 use mathlib.Core.List.{List, [], _∷_, _++_, append-nil}
-use Prim.Native.Nat.{ℕ, zero, suc, _+_, _-_, _≤_, _<_}
+use Prim.Native.Nat.{ℕ, zero, suc, _+_, _-_, _≤_, _<_, max}
 use native.Mathlib.Numerals.{add-one}
 use native.Mathlib.Omega.{arith}
-use lib.Dec.{ltb}
-use lib.ListN.{length, take, drop, getD, set, drop-of-length-le, take-append-drop}
-use lib.Seq.{drop-cons}
-use borrow.Author.Tests.{lt-ltb, le-ltb}
+use lib.Dec.{leb, ltb}
+use lib.ListN.{length, take, getD, set, drop-of-length-le}
+use lib.Seq.{set-getD}
+use borrow.Author.Tests.{ltb-true, ltb-false, leb-true, leb-false}
+use mir.Val.{boolByte}
 use Rattle.model.specs.Lists.{ins, del}
-use Rattle.page.specs.Runs.{below}
+
+-- ---- one more, one less
 
 module _ {A : Type 0} where
-  -- ---- one more
+  -- Both loops store at each place: where nothing moves, a word over itself. The one word that is not wanted any more stands at the higher of `at` and `i`;
+  -- what is left without it is the same before and after a turn.
+  up-one : (xs : List A) (i : ℕ) (d : A) → suc i < length xs → del i (set xs (suc i) (getD xs i d)) ≡ del (suc i) xs
+  up-one [] i d h = absurd (omega arith)
+  up-one (x ∷ []) i d h = absurd (omega arith)
+  up-one (x ∷ y ∷ xs) zero d h = refl
+  up-one (x ∷ y ∷ xs) (suc i) d h = ap (λ (r : List A). x ∷ r) (up-one (y ∷ xs) i d (omega arith))
 
-  -- a turn: putting what stood at i back in after the store is the same as before
-  pub ins-step : (xs : List A) (i : ℕ) (v d : A) → i < length xs → ins (i + 1) (getD xs i d) (set xs i v) ≡ ins i v xs
-  ins-step xs i v d h = rw add-one (go xs i h)
+  down-one : (xs : List A) (i : ℕ) (d : A) → suc i < length xs → del (suc i) (set xs i (getD xs (suc i) d)) ≡ del i xs
+  down-one [] i d h = absurd (omega arith)
+  down-one (x ∷ []) i d h = absurd (omega arith)
+  down-one (x ∷ y ∷ xs) zero d h = refl
+  down-one (x ∷ y ∷ xs) (suc i) d h = ap (λ (r : List A). x ∷ r) (down-one (y ∷ xs) i d (omega arith))
+
+  -- a turn of `push_in` and of `pull_out`
+  pub up-turn : (xs : List A) (at i : ℕ) (d : A) → 0 < i → i < length xs
+      → del (max at (i - 1)) (set xs i (getD xs (i - boolByte (ltb at i)) d)) ≡ del (max at i) xs
+  up-turn xs at zero d some h = absurd (omega arith)
+  up-turn xs at (suc i) d some h = go (ltb at (suc i)) refl
     where
-      go : (xs : List A) (i : ℕ) → i < length xs → ins (suc i) (getD xs i d) (set xs i v) ≡ ins i v xs
-      go [] i h = absurd (omega arith)
-      go (x ∷ xs) zero h = refl
-      go (x ∷ xs) (suc i) h = ap (λ (r : List A). x ∷ r) (go xs i (omega arith))
+      go : (b : Bool) → ltb at (suc i) ≡ b → del (max at (suc i - 1)) (set xs (suc i) (getD xs (suc i - boolByte b) d)) ≡ del (max at (suc i)) xs
+      go true e =
+          let below : at < suc i = ltb-true at (suc i) e in
+          let before : suc i - 1 ≡ i = omega arith in
+          let here : max at i ≡ i = omega arith in
+          let there : max at (suc i) ≡ suc i = omega arith in
+          rw (before, here, there) (up-one xs i d h)
+      go false e =
+          let above : suc i ≤ at = ltb-false at (suc i) e in
+          let before : suc i - 0 ≡ suc i = omega arith in
+          let same : max at (suc i - 1) ≡ max at (suc i) = omega arith in
+          rw (before, same) (ap (del (max at (suc i))) (set-getD xs (suc i) d))
 
-  -- put in past the end, and the end cut off
-  ins-end : (xs : List A) (v : A) → take (length xs) (ins (length xs) v xs) ≡ xs
-  ins-end [] v = refl
-  ins-end (x ∷ xs) v = ap (λ (r : List A). x ∷ r) (ins-end xs v)
+  pub down-turn : (xs : List A) (at i : ℕ) (d : A) → i + 1 < length xs → del (max at (i + 1)) (set xs i (getD xs (i + boolByte (leb at i)) d)) ≡ del (max at i) xs
+  down-turn xs at i d h = go (leb at i) refl
+    where
+      go : (b : Bool) → leb at i ≡ b → del (max at (i + 1)) (set xs i (getD xs (i + boolByte b) d)) ≡ del (max at i) xs
+      go true e =
+          let below : at ≤ i = leb-true at i e in
+          let next : i + 1 ≡ suc i = add-one i in
+          let here : max at i ≡ i = omega arith in
+          let there : max at (suc i) ≡ suc i = omega arith in
+          rw (next, here, there) (down-one xs i d (omega arith))
+      go false e =
+          let above : i < at = leb-false at i e in
+          let stay : i + 0 ≡ i = omega arith in
+          let same : max at (i + 1) ≡ max at i = omega arith in
+          rw (stay, same) (ap (del (max at i)) (set-getD xs i d))
 
-  -- room for one more: what is put in at i pushes the last one out
+  -- without the last
+  pub del-last : (xs : List A) (i : ℕ) → length xs ≤ suc i → del i xs ≡ take i xs
+  del-last xs i h = ap (λ (r : List A). take i xs ++ r) (drop-of-length-le xs h) ∙ append-nil (take i xs)
+
+  -- a word stored: the one there is left out, and another is put in
+  pub set-ins : (xs : List A) (i : ℕ) (v : A) → i < length xs → set xs i v ≡ ins i v (del i xs)
+  set-ins [] i v h = absurd (omega arith)
+  set-ins (x ∷ xs) zero v h = refl
+  set-ins (x ∷ xs) (suc i) v h = ap (λ (r : List A). x ∷ r) (set-ins xs i v (omega arith))
+
+  -- the first words with one more, or one less, come from the first words
   pub take-ins : (n : ℕ) (xs : List A) (i : ℕ) (v : A) → i ≤ n → take (suc n) (ins i v xs) ≡ ins i v (take n xs)
   take-ins n xs zero v hi = refl
   take-ins zero xs (suc i) v hi = absurd (omega arith)
   take-ins (suc n) [] (suc i) v hi = refl
   take-ins (suc n) (x ∷ xs) (suc i) v hi = ap (λ (r : List A). x ∷ r) (take-ins n xs i v (omega arith))
 
-  -- the end of the loop
-  pub pushed : (s s₀ : List A) (i at : ℕ) (u v : A) → ins i u s ≡ ins at v s₀ → length s ≡ length s₀ → i ≡ length s₀ → at < length s₀
-      → s ≡ ins at v (take (length s₀ - 1) s₀)
-  pushed s s₀ i at u v e l hi ha =
-      let n : ℕ = length s₀ - 1 in
-      let i′ : length s ≡ i = omega arith in
-      let n′ : length s ≡ suc n = omega arith in
-      sym (ins-end s u) ∙ ap (λ (k : ℕ). take (length s) (ins k u s)) i′ ∙ ap (take (length s)) e
-      ∙ ap (λ (k : ℕ). take k (ins at v s₀)) n′ ∙ take-ins n s₀ at v (omega arith)
+  pub take-del : (n : ℕ) (xs : List A) (i : ℕ) → i ≤ n → take n (del i xs) ≡ del i (take (suc n) xs)
+  take-del n (x ∷ xs) zero hi = refl
+  take-del zero [] zero hi = refl
+  take-del (suc n) [] zero hi = refl
+  take-del zero xs (suc i) hi = absurd (omega arith)
+  take-del (suc n) [] (suc i) hi = refl
+  take-del (suc n) (x ∷ xs) (suc i) hi = ap (λ (r : List A). x ∷ r) (take-del n xs i (omega arith))
 
-  -- ---- one less
-
-  pub del-step : (xs : List A) (i : ℕ) (d : A) → i + 1 < length xs → del (i + 1) (set xs i (getD xs (i + 1) d)) ≡ del i xs
-  del-step xs i d h = rw add-one (go xs i (omega arith))
-    where
-      go : (xs : List A) (i : ℕ) → suc i < length xs → del (suc i) (set xs i (getD xs (suc i) d)) ≡ del i xs
-      go [] i h = absurd (omega arith)
-      go (x ∷ []) i h = absurd (omega arith)
-      go (x ∷ y ∷ xs) zero h = refl
-      go (x ∷ y ∷ xs) (suc i) h = ap (λ (r : List A). x ∷ r) (go (y ∷ xs) i (omega arith))
-
-  pub pulled : (s s₀ : List A) (i at : ℕ) → del i s ≡ del at s₀ → drop (length s₀ - 1) s ≡ drop (length s₀ - 1) s₀ → length s ≡ length s₀
-      → i ≡ length s₀ - 1 → at < length s₀ → s ≡ del at s₀ ++ drop (length s₀ - 1) s₀
-  pulled s s₀ i at e last l hi ha =
-      let n : ℕ = length s₀ - 1 in
-      let short : length s ≤ suc i = omega arith in
-      let front : take n s ≡ del at s₀ =
-      ap (λ (k : ℕ). take k s) (sym hi) ∙ sym (append-nil (take i s)) ∙ ap (λ (r : List A). take i s ++ r) (sym (drop-of-length-le s short)) ∙ e in
-      sym (take-append-drop n s) ∙ ap (λ (r : List A). r ++ drop n s) front ∙ ap (λ (r : List A). del at s₀ ++ r) last
-
--- ---- the place of a key
-
-below-at : (k : ℕ) (s : List ℕ) (i : ℕ) → i < length s → below k (drop i s) ≡ cond (ltb (getD s i 0) k) (suc (below k (drop (suc i) s))) 0
-unfolding below
-below-at k s i h = ap (below k) (drop-cons s i 0 h)
-
-pub below-here : (k : ℕ) (s : List ℕ) (i : ℕ) → i < length s → k ≤ getD s i 0 → below k (drop i s) ≡ 0
-below-here k s i h l = below-at k s i h ∙ simp (le-ltb (getD s i 0) k l)
-
-pub below-past : (k : ℕ) (s : List ℕ) (i : ℕ) → i < length s → getD s i 0 < k → below k (drop i s) ≡ suc (below k (drop (i + 1) s))
-below-past k s i h l = rw add-one (below-at k s i h ∙ simp (lt-ltb (getD s i 0) k l))
-
-pub below-end : (k : ℕ) (s : List ℕ) (i : ℕ) → length s ≤ i → below k (drop i s) ≡ 0
-unfolding below
-below-end k s i h = rw drop-of-length-le refl
+-- what a test counts for
+pub byte-most : (b : Bool) → boolByte b ≤ 1
+byte-most true = omega arith
+byte-most false = omega arith

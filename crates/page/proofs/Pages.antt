@@ -2,14 +2,14 @@
 -- A page is known by its count, its height and three runs: keys, values and, above the leaves, children.
 -- Assumes nothing.
 use mathlib.Core.Path.{_≡_, refl, sym, ap, _∙_}
-use mathlib.Core.Bool.{Bool, true, false}
+use mathlib.Core.Bool.{Bool, true, false, _&&_}
 use mathlib.Core.List.{List, [], _∷_}
-use Prim.Native.Nat.{ℕ, suc, _+_, _-_, _*_, _≤_, _<_}
+use Prim.Native.Nat.{ℕ, zero, suc, _+_, _-_, _*_, _≤_, _<_}
 use native.Mathlib.Numerals.{add-one}
 use native.Mathlib.Omega.{arith}
 use lib.Dec.{leb, ltb, eqb}
-use lib.ListN.{length, set, length-set}
-use lib.Seq.{getD-set-same}
+use lib.ListN.{length, take, drop, set, length-set}
+use lib.Seq.{getD-set-same, take-take}
 use borrow.Author.Tests.{leb-true, ltb-true, eqb-true, le-leb, eq-eqb}
 use Rattle.model.specs.Lists.{ins, del, tab, every}
 use Rattle.model.specs.Tree.{Entry, Node, entry}
@@ -21,7 +21,8 @@ use Rattle.page.specs.Page.{Long, said, firsts, roomAt, holdsAt, fullAt,
 use Rattle.model.proofs.Cases.{contrary}
 use Rattle.model.proofs.Lists.{map-set, every-true, map-tab, map-ins, map-del}
 use Rattle.model.proofs.Read.{length-own}
-use Rattle.page.proofs.Parts.{stored, then-next, part-low, part-high, part-set, at-low, at-high}
+use Rattle.page.proofs.Lists.{take-ins, take-del}
+use Rattle.page.proofs.Parts.{stored, then-next, part-here, part-low, part-high, part-set, at-low, at-high}
 use Rattle.page.proofs.Tables.{part-tab, keysOf, valuesOf, entries-by}
 
 -- ---- the tests
@@ -58,6 +59,17 @@ full-facts most page slot e =
 pub full-at : (most : ℕ) (page : List ℕ) (slot : ℕ) → countOf page ≡ most → slot ≤ most → fullAt most page slot ≡ true
 unfolding fullAt
 full-at most page slot a b = simp (eq-eqb, le-leb)
+
+-- behind the last entry, and behind the last child
+pub behind-facts : (n slot place : ℕ) → (eqb slot n && eqb place (n + 1)) ≡ true → (slot ≡ n) × (place ≡ suc n)
+behind-facts n slot place e =
+    let h = every-true (eqb slot n ∷ eqb place (n + 1) ∷ []) (both (eqb slot n) (eqb place (n + 1)) e) in
+    omega (arith, eqb-true)
+  where
+    both : (a b : Bool) → (a && b) ≡ true → every (a ∷ b ∷ []) ≡ true
+    both true true e = refl
+    both true false e = e
+    both false b e = e
 
 -- the last of the tests decides
 pub last-test : (t : Bool) → t ≡ every (t ∷ [])
@@ -127,52 +139,58 @@ leaf-left {a} {n} {ys} {xs} z e = record {
   tall = λ t. absurd (omega arith);
 }
 
-module _ {most n : ℕ} {ks vs cs zs p₀ p₁ p₂ p₃ page : List ℕ} (long : Long most p₀) (few : n ≤ most)
-    (k : Changed 2 n ks p₀ p₁) (v : Changed (2 + most) n vs p₁ p₂) (c : Above (2 + 2 * most) (suc n) cs p₂ p₃) (s : Changed 0 1 zs p₃ page) where
+-- the runs may be longer than what the page holds: its first n words count, and n + 1 of the children
+module _ {most n m l : ℕ} {ks vs cs zs p₀ p₁ p₂ p₃ page : List ℕ} (long : Long most p₀) (sizes : (n ≤ m) × (m ≤ most) × (suc n ≤ l))
+    (k : Changed 2 m ks p₀ p₁) (v : Changed (2 + most) m vs p₁ p₂) (c : Above (2 + 2 * most) l cs p₂ p₃) (s : Changed 0 1 zs p₃ page) where
   height-kept : heightOf p₂ ≡ heightOf p₀
   height-kept = at-low v 1 0 (omega arith) ∙ at-low k 1 0 (omega arith)
 
-  written : countOf page ≡ n → (x : Node ℕ) → ks ≡ keysOf (x .own) → vs ≡ valuesOf (x .own) → (0 < heightOf p₀ → cs ≡ x .children) → Holds most (heightOf p₀) x page
-  written count x ke ve ce = holds-by most page (omega (arith, s .long, c .changed .long, v .long, k .long)) n (heightOf p₀) x few count
+  written : countOf page ≡ n → (x : Node ℕ) → take n ks ≡ keysOf (x .own) → take n vs ≡ valuesOf (x .own) → (0 < heightOf p₀ → take (suc n) cs ≡ x .children)
+      → Holds most (heightOf p₀) x page
+  written count x ke ve ce = holds-by most page (omega (arith, s .long, c .changed .long, v .long, k .long)) n (heightOf p₀) x (omega arith) count
       (at-high s 1 0 (omega arith) ∙ at-low (c .changed) 1 0 (omega arith) ∙ height-kept)
-      (part-high s 2 n (omega arith) ∙ part-low (c .changed) 2 n (omega arith) ∙ part-low v 2 n (omega arith) ∙ k .here ∙ ke)
-      (part-high s (2 + most) n (omega arith) ∙ part-low (c .changed) (2 + most) n (omega arith) ∙ v .here ∙ ve)
-      (λ t. part-high s (2 + 2 * most) (suc n) (omega arith) ∙ c .changed .here ∙ c .tall (omega (arith, height-kept)) ∙ ce t)
+      (part-high s 2 n (omega arith) ∙ part-low (c .changed) 2 n (omega arith) ∙ part-low v 2 n (omega arith) ∙ part-here k n (omega arith) ∙ ke)
+      (part-high s (2 + most) n (omega arith) ∙ part-low (c .changed) (2 + most) n (omega arith) ∙ part-here v n (omega arith) ∙ ve)
+      (λ t. part-high s (2 + 2 * most) (suc n) (omega arith) ∙ part-here (c .changed) (suc n) (omega arith) ∙ ap (take (suc n)) (c .tall (omega (arith, height-kept))) ∙ ce t)
 
--- one more or one less: `es` does to entries what `ks` does to their keys and `vs` to their values
-module _ (ks vs cs : List ℕ → List ℕ) (es : List Entry → List Entry) (keys : (l : List Entry) → keysOf (es l) ≡ ks (keysOf l)) (values : (l : List Entry) → valuesOf (es l) ≡ vs (valuesOf l)) where
-  shifted : {p₀ p₁ p₂ p₃ : List ℕ} (most n m : ℕ) → Long most p₀ → n ≤ most → m ≤ most
-      → Changed 2 m (ks (part 2 n p₀)) p₀ p₁
-      → Changed (2 + most) m (vs (part (2 + most) n p₁)) p₁ p₂
-      → Above (2 + 2 * most) (suc m) (cs (part (2 + 2 * most) (suc n) p₂)) p₂ p₃
+-- one more or one less: `es` does to entries what `ks` does to their keys and `vs` to their values, and the first n give the first m of what is made
+module _ (ks vs cs : List ℕ → List ℕ) (es : List Entry → List Entry) (keys : (l : List Entry) → keysOf (es l) ≡ ks (keysOf l)) (values : (l : List Entry) → valuesOf (es l) ≡ vs (valuesOf l))
+    (n m : ℕ) (first-k : (l : List ℕ) → take m (ks l) ≡ ks (take n l)) (first-v : (l : List ℕ) → take m (vs l) ≡ vs (take n l)) (first-c : (l : List ℕ) → take (suc m) (cs l) ≡ cs (take (suc n) l)) where
+  -- of the runs' words i give j, and of the children's a give b
+  shifted : {p₀ p₁ p₂ p₃ : List ℕ} (most i j a b : ℕ) → Long most p₀ → (n ≤ i) × (i ≤ most) × (suc n ≤ a) → (m ≤ j) × (j ≤ most) × (suc m ≤ b)
+      → Changed 2 j (ks (part 2 i p₀)) p₀ p₁
+      → Changed (2 + most) j (vs (part (2 + most) i p₁)) p₁ p₂
+      → Above (2 + 2 * most) b (cs (part (2 + 2 * most) a p₂)) p₂ p₃
       → Holds most (heightOf p₀) record { page = 0; own = es (tab n (entryIn most p₀)); children = cs (tab (suc n) (childIn most p₀)) } (set p₃ 0 m)
-  shifted {p₀} {p₁} {p₂} {p₃} most n m long had has k v c =
+  shifted {p₀} {p₁} {p₂} {p₃} most i j a b long had has k v c =
       let some : 0 < length p₃ = omega (arith, c .changed .long, v .long, k .long) in
       written long has k v c (stored refl some) (getD-set-same p₃ 0 m 0 some) _
-      (sym (keys _ ∙ ap ks (keys-part most p₀ long n had)))
-      (sym (values _ ∙ ap vs (values-part most p₀ long n had ∙ sym (part-high k (2 + most) n (omega arith)))))
-      (λ t. ap cs (part-high v (2 + 2 * most) (suc n) (omega arith) ∙ part-high k (2 + 2 * most) (suc n) (omega arith) ∙ sym (children-part most p₀ long (suc n) (omega arith))))
+      (first-k _ ∙ ap ks (take-take n i (drop 2 p₀) (omega arith)) ∙ sym (keys _ ∙ ap ks (keys-part most p₀ long n (omega arith))))
+      (first-v _ ∙ ap vs (take-take n i (drop (2 + most) p₁) (omega arith) ∙ part-high k (2 + most) n (omega arith)) ∙ sym (values _ ∙ ap vs (values-part most p₀ long n (omega arith))))
+      (λ t. first-c _ ∙ ap cs (take-take (suc n) a (drop (2 + 2 * most) p₂) (omega arith) ∙ part-high v (2 + 2 * most) (suc n) (omega arith)
+      ∙ part-high k (2 + 2 * most) (suc n) (omega arith) ∙ sym (children-part most p₀ long (suc n) (omega arith))))
 
-pub widened : {p₀ p₁ p₂ p₃ : List ℕ} (most n slot key value place child : ℕ) → Long most p₀ → n < most
-    → Changed 2 (suc n) (ins slot key (part 2 n p₀)) p₀ p₁
-    → Changed (2 + most) (suc n) (ins slot value (part (2 + most) n p₁)) p₁ p₂
-    → Above (2 + 2 * most) (suc (n + 1)) (ins place child (part (2 + 2 * most) (n + 1) p₂)) p₂ p₃
+-- the runs moved may be longer than what the page holds: i words of keys and of values, j of children
+pub widened : {p₀ p₁ p₂ p₃ : List ℕ} (most i j n slot key value place child : ℕ) → Long most p₀ → (n ≤ i) × (i < most) × (n < j) × (j ≤ most) → slot ≤ n → place ≤ suc n
+    → Changed 2 (suc i) (ins slot key (part 2 i p₀)) p₀ p₁
+    → Changed (2 + most) (suc i) (ins slot value (part (2 + most) i p₁)) p₁ p₂
+    → Above (2 + 2 * most) (suc j) (ins place child (part (2 + 2 * most) j p₂)) p₂ p₃
     → Holds most (heightOf p₀) (more slot (entry key value) place child (firsts most n p₀)) (set p₃ 0 (n + 1))
-widened {p₂ = p₂} {p₃} most n slot key value place child long few k v c =
+widened most i j n slot key value place child long few inside among k v c =
     let one : n + 1 ≡ suc n = add-one n in
-    let c′ : Above (2 + 2 * most) (suc (suc n)) (ins place child (part (2 + 2 * most) (suc n) p₂)) p₂ p₃ = rw one at c in
-    rw one (shifted (ins slot key) (ins slot value) (ins place child) (ins slot (entry key value)) (map-ins _ slot (entry key value)) (map-ins _ slot (entry key value)) most n (suc n) long (omega arith) few k v c′)
+    rw one (shifted (ins slot key) (ins slot value) (ins place child) (ins slot (entry key value)) (map-ins _ slot (entry key value)) (map-ins _ slot (entry key value)) n (suc n)
+    (λ l. take-ins n l slot key inside) (λ l. take-ins n l slot value inside) (λ l. take-ins (suc n) l place child among) most i (suc i) j (suc j) long (omega arith) (omega arith) k v c)
 
-pub narrowed : {p₀ p₁ p₂ p₃ : List ℕ} (most n slot place : ℕ) → Long most p₀ → n ≤ most → slot < n
-    → Changed 2 (n - 1) (del slot (part 2 n p₀)) p₀ p₁
-    → Changed (2 + most) (n - 1) (del slot (part (2 + most) n p₁)) p₁ p₂
-    → Above (2 + 2 * most) (n + 1 - 1) (del place (part (2 + 2 * most) (n + 1) p₂)) p₂ p₃
+pub narrowed : {p₀ p₁ p₂ p₃ : List ℕ} (most n slot place : ℕ) → Long most p₀ → n ≤ most → slot < n → place ≤ n
+    → Changed 2 (most - 1) (del slot (part 2 most p₀)) p₀ p₁
+    → Changed (2 + most) (most - 1) (del slot (part (2 + most) most p₁)) p₁ p₂
+    → Above (2 + 2 * most) (most + 1 - 1) (del place (part (2 + 2 * most) (most + 1) p₂)) p₂ p₃
     → Holds most (heightOf p₀) (less slot place (firsts most n p₀)) (set p₃ 0 (n - 1))
-narrowed {p₂ = p₂} {p₃} most n slot place long few inside k v c =
-    let one : n + 1 ≡ suc n = add-one n in
-    let size : n + 1 - 1 ≡ suc (n - 1) = omega arith in
-    let c′ : Above (2 + 2 * most) (suc (n - 1)) (del place (part (2 + 2 * most) (suc n) p₂)) p₂ p₃ = rw (size, one) at c in
-    shifted (del slot) (del slot) (del place) (del slot) (map-del _ slot) (map-del _ slot) most n (n - 1) long few (omega arith) k v c′
+narrowed most zero slot place long few inside among k v c = absurd (omega arith)
+narrowed most (suc n) slot place long few inside among k v c =
+    let one : suc n - 1 ≡ n = omega arith in
+    rw one (shifted (del slot) (del slot) (del place) (del slot) (map-del _ slot) (map-del _ slot) (suc n) n
+    (λ l. take-del n l slot (omega arith)) (λ l. take-del n l slot (omega arith)) (λ l. take-del (suc n) l place among) most most (most - 1) (most + 1) (most + 1 - 1) long (omega arith) (omega arith) k v c)
 
 pub alone-holds : (most h key value left right : ℕ) (page : List ℕ) → Long most page → 1 ≤ most
     → Holds most h (alone (entry key value) left right) (set (set (set (set (set (set page 0 1) 1 h) 2 key) (2 + most) value) (2 + 2 * most) left) (3 + 2 * most) right)
@@ -191,7 +209,7 @@ alone-holds most h key value left right page long few =
     let r : Changed (2 + 2 * most + 1) 1 (right ∷ []) p₃ (set p₃ (3 + 2 * most) right) = rw next (stored refl (omega (arith, t .long, k .long, v .long, l .long))) in
     let c = then-next (2 + 2 * most) 1 l r in
     let height : heightOf p₀ ≡ h = getD-set-same p 1 h 0 (omega arith) in
-    rw height at (written (omega (arith, t .long)) few k v (above-done c refl) unchanged
+    rw height at (written (omega (arith, t .long)) (omega arith) k v (above-done c refl) unchanged
     (at-low c 0 0 (omega arith) ∙ at-low v 0 0 (omega arith) ∙ at-low k 0 0 (omega arith) ∙ at-low t 0 0 (omega arith) ∙ getD-set-same page 0 1 0 (omega arith))
     (alone (entry key value) left right) refl refl (λ a. refl))
 

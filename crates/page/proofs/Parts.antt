@@ -7,8 +7,9 @@ use Prim.Native.Nat.{ℕ, zero, suc, _+_, _-_, _≤_, _<_}
 use native.Mathlib.Nat.{add-assoc}
 use native.Mathlib.Numerals.{add-one}
 use native.Mathlib.Omega.{arith}
-use lib.ListN.{length, take, drop, getD, set, take-append-drop, length-append, length-take, length-drop}
-use lib.Seq.{take-take, drop-drop, take-at, drop-at, length-take-le, getD-take, getD-drop, set-split, take-add, drop-set-add, take-set-lt}
+use lib.ListN.{length, take, drop, getD, set, take-append-drop, length-append, length-take, length-drop, drop-of-length-le}
+use lib.Seq.{take-take, take-all, drop-drop, take-at, drop-at, length-take-le, getD-take, getD-drop, set-split, take-add, drop-set-add, take-set-lt}
+use Rattle.model.specs.Lists.{ins}
 use Rattle.page.specs.Runs.{part, put, Changed}
 
 module _ {A : Type 0} where
@@ -73,6 +74,9 @@ module _ {A : Type 0} where
       record { low = d .low ∙ c .low; here = d .here; high = d .high ∙ same-drop (a + n) (a + m) xs₁ xs (c .high) (omega arith); long = d .long ∙ c .long }
 
   module _ {a n : ℕ} {ys xs xs′ : List A} (c : Changed a n ys xs xs′) where
+    pub part-here : (m : ℕ) → m ≤ n → part a m xs′ ≡ take m ys
+    part-here m h = sym (take-take m n (drop a xs′) h) ∙ ap (take m) (c .here)
+
     pub part-low : (b m : ℕ) → b + m ≤ a → part b m xs′ ≡ part b m xs
     part-low b m h = sym (part-take b m a xs′ h) ∙ ap (part b m) (c .low) ∙ part-take b m a xs h
 
@@ -100,6 +104,14 @@ module _ {A : Type 0} where
   -- two changes, the second where the first ended, as one
   pub then-next : (a n : ℕ) {m : ℕ} {ys zs xs xs₁ xs₂ : List A} → Changed a n ys xs xs₁ → Changed (a + n) m zs xs₁ xs₂ → Changed a (n + m) (ys ++ zs) xs xs₂
   then-next a n {m} {ys} {zs} c d = rw (c .here) at (grown (omega arith) c (from-lower a n d))
+
+  -- a store behind a part: the part has one more
+  pub put-behind : (a n : ℕ) (xs : List A) (v : A) → a + n < length xs → Changed a (suc n) (ins n v (part a n xs)) xs (set xs (a + n) v)
+  put-behind a n xs v h =
+      let l : length (part a n xs) ≡ n = length-part a n xs (omega arith) in
+      let one : n + 1 ≡ suc n = add-one n in
+      let made : part a n xs ++ v ∷ [] ≡ ins n v (part a n xs) = sym (ap₂ (λ (f r : List A). f ++ v ∷ r) (take-all n (part a n xs) (omega arith)) (drop-of-length-le (part a n xs) {i = n} (omega arith))) in
+      rw (one, made) at (from-lower a n (stored {v = v} {xs = xs} refl h))
 
   -- a store in a part
   pub part-set : (a n : ℕ) (xs : List A) (i : ℕ) (v : A) → i < n → part a n (set xs (a + i) v) ≡ set (part a n xs) i v

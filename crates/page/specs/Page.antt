@@ -10,7 +10,7 @@ use lib.ListN.{length, getD}
 use Rattle.model.specs.Lists.{tab, every}
 use Rattle.model.specs.Tree.{Entry, Node, noEntry}
 use Rattle.model.specs.Page.{countOf, heightOf, entryIn, childIn, entriesOf, nodeOf, Holds}
-use Rattle.model.specs.Entries.{gapBefore}
+use Rattle.model.specs.Entries.{gapOf, gapBefore}
 use Rattle.model.specs.Gap.{at}
 use Rattle.model.specs.Insert.{cutLeft}
 use Rattle.page.specs.declared.Change.{Change}
@@ -19,6 +19,8 @@ use Rattle.page.specs.declared.Parting.{Parting}
 use Rattle.page.specs.declared.Parting.the-variants as parting
 use Rattle.page.specs.declared.Place.{Place}
 use Rattle.page.specs.declared.Place.the-variants as place
+use Rattle.page.specs.declared.Slot.{Slot}
+use Rattle.page.specs.declared.Slot.the-variants as slot
 
 -- the words that a page of at most `most` entries takes: 30 of 32
 abbrev pub Long : ℕ → List ℕ → Type 0
@@ -50,6 +52,10 @@ unfoldable pub fullAt : ℕ → List ℕ → ℕ → Bool
 fullAt most page slot = every (eqb (countOf page) most ∷ leb slot most ∷ [])
 
 -- ---- what is answered
+
+-- the slot of the gap after the entries whose keys pass a test
+unfoldable pub gapIn : ℕ → List ℕ → (ℕ → Bool) → Slot
+gapIn most page before = cond (every (counted most page)) (slot.At (gapOf before (entriesOf most page))) slot.Unsound
 
 -- where a key belongs: at the entry that has it, or in the gap after the keys below it
 unfoldable pub placeOf : ℕ → List ℕ → ℕ → Place

@@ -2,10 +2,10 @@
 -- Nothing here knows of pages.
 -- Assumes nothing: these are definitions.
 use mathlib.Core.Path.{_≡_}
-use mathlib.Core.Bool.{cond}
+use mathlib.Core.Bool.{Bool, true, false, cond}
 use mathlib.Core.List.{List, [], _∷_, _++_}
 use Prim.Native.Nat.{ℕ, suc, _+_}
-use lib.Dec.{ltb}
+use lib.Dec.{ltb, leb}
 use lib.ListN.{length, take, drop}
 
 module _ {A : Type 0} where
@@ -24,7 +24,12 @@ pub record Changed {A : Type 0} (a n : ℕ) (ys xs xs′ : List A) : Type 0 wher
   pub high : drop (a + n) xs′ ≡ drop (a + n) xs
   pub long : length xs′ ≡ length xs
 
--- how many words stand in front that are below k
-unfoldable pub below : ℕ → List ℕ → ℕ
-below k [] = 0
-below k (x ∷ xs) = cond (ltb x k) (suc (below k xs)) 0
+-- how many words stand in front that pass a test
+unfoldable pub leading : (ℕ → Bool) → List ℕ → ℕ
+leading test [] = 0
+leading test (x ∷ xs) = cond (test x) (suc (leading test xs)) 0
+
+-- the test of a key: below it or, where `past`, at most it
+abbrev pub upTo : ℕ → Bool → ℕ → Bool
+upTo k false x = ltb x k
+upTo k true x = leb x k

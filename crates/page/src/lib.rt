@@ -2,15 +2,16 @@
 // any words are taken. `most` is the most entries a page may hold: 9 gives keys from word 2, values from 11, children from 20.
 // In a leaf, whose height is 0, children are neither moved nor promised.
 ghost use mathlib.Core.Path.{_≡_};
-ghost use mathlib.Core.Bool.{true};
-ghost use Prim.Native.Nat.{ℕ, suc, _+_, _*_, _≤_, _<_};
+ghost use mathlib.Core.Bool.{true, false};
+ghost use Prim.Native.Nat.{suc, _+_, _*_, _≤_, _<_};
 ghost use lib.ListN.{length, getD};
 ghost use Rattle.model.specs.Lists.{ins};
 ghost use Rattle.model.specs.Tree.{entry, noEntry};
 ghost use Rattle.model.specs.Page.{countOf, heightOf, entryIn, childIn, entriesOf, childrenOf, Holds};
 ghost use Rattle.model.specs.Insert.{cutLeft};
+ghost use Rattle.page.specs.Runs.{upTo};
 ghost use Rattle.page.specs.Node.{alone, more, wider, less, instead};
-ghost use Rattle.page.specs.Page.{Long, said, firsts, roomAt, holdsAt, fullAt, placeOf, Changes, Splits};
+ghost use Rattle.page.specs.Page.{Long, said, firsts, roomAt, holdsAt, fullAt, gapIn, placeOf, Changes, Splits};
 
 pub mod runs;
 
@@ -23,28 +24,61 @@ pub enum Place {
     Unsound,
 }
 
+// A slot of a page, where the page can be.
+pub enum Slot {
+    At(usize),
+    Unsound,
+}
+
 // An entry by value.
 pub struct Entry {
     pub key: u64,
     pub value: u64,
 }
 
-pub fn find(page: &[u64], most: usize, key: u64) -> Place
-    requires { ⌜ Long most (now page) ⌝ }
-    ensures { λ r. ⌜ r ≡ placeOf most (now (page .entry)) key ⌝ }
+// The slot of the gap before `key`: after the keys below it.
+pub fn gap_before(page: &[u64], most: usize, key: u64) -> Slot
+    requires { ⌜ Long most (now page) × (most < 64) ⌝ }
+    ensures { λ r. ⌜ r ≡ gapIn most (now (page .entry)) (upTo key false) ⌝ }
 {
     let n = page[0] as usize;
     if n == 0 {
-        return Place::Unsound;
+        return Slot::Unsound;
     }
     if most < n {
-        return Place::Unsound;
+        return Slot::Unsound;
     }
-    let slot = runs::scan(&page[2..2 + n], key);
-    if slot < n {
-        if page[2 + slot] == key {
-            return Place::Here(slot);
-        }
+    Slot::At(runs::scan(&page[2..2 + most], n, key, false))
+}
+
+// The slot of the gap after `key`: after the keys up to it. Above the leaves the way there is mostly that of the call before, as from next to next.
+pub fn gap_after(page: &[u64], most: usize, key: u64) -> Slot
+    requires { ⌜ Long most (now page) × (most < 64) ⌝ }
+    ensures { λ r. ⌜ r ≡ gapIn most (now (page .entry)) (upTo key true) ⌝ }
+{
+    let n = page[0] as usize;
+    if n == 0 {
+        return Slot::Unsound;
+    }
+    if most < n {
+        return Slot::Unsound;
+    }
+    if page[1] != 0 {
+        return Slot::At(runs::walk(&page[2..2 + n], key));
+    }
+    Slot::At(runs::scan(&page[2..2 + most], n, key, true))
+}
+
+// Where `key` belongs. Both tests are made, with one jump for the two.
+pub fn find(page: &[u64], most: usize, key: u64) -> Place
+    requires { ⌜ Long most (now page) × (most < 64) ⌝ }
+    ensures { λ r. ⌜ r ≡ placeOf most (now (page .entry)) key ⌝ }
+{
+    let Slot::At(slot) = gap_before(page, most, key) else {
+        return Place::Unsound;
+    };
+    if (slot < page[0] as usize) & (page[2 + slot] == key) {
+        return Place::Here(slot);
     }
     Place::Gap(slot)
 }
@@ -195,7 +229,7 @@ pub fn insert(
     }
 }
 
-// The same for a page that is taken to hold `n` entries, whatever its count says.
+// The same for a page that is taken to hold `n` entries, whatever its count says. All words of each part move, also those past the count, so that their number can be foreseen.
 fn widen(
     page: &mut [u64],
     most: usize,
@@ -209,10 +243,49 @@ fn widen(
     requires { ⌜ Long most (now page) × (n < most) × (slot ≤ n) × (at ≤ suc n) ⌝ }
     ensures { λ _. ⌜ Holds most (heightOf (now (page .entry))) (more slot (entry key value) at child (firsts most n (now (page .entry)))) (now (page .exit)) ⌝ }
 {
-    runs::push_at(page, 2, n, slot, key);
-    runs::push_at(page, 2 + most, n, slot, value);
+    runs::push_at(page, 2, most - 1, slot, key);
+    runs::push_at(page, 2 + most, most - 1, slot, value);
     if page[1] != 0 {
-        runs::push_at(page, 2 + 2 * most, n + 1, at, child);
+        runs::push_at(page, 2 + 2 * most, most, at, child);
+    }
+    page[0] = n as u64 + 1;
+}
+
+// The same promise as `insert`, for an entry that goes behind the last.
+pub fn put_last(
+    page: &mut [u64],
+    most: usize,
+    slot: usize,
+    key: u64,
+    value: u64,
+    at: usize,
+    child: u64,
+) -> Change
+    requires { ⌜ Long most (now page) ⌝ }
+    ensures { λ r. ⌜ Changes most (roomAt most (now (page .entry)) slot at) (more slot (entry key value) at child (said most (now (page .entry)))) (now (page .entry)) (now (page .exit)) r ⌝ }
+{
+    if has_room(page, most, slot, at) {
+        let n = page[0] as usize;
+        if (slot == n) & (at == n + 1) {
+            lengthen(page, most, n, key, value, child);
+            return Change::Done;
+        }
+        widen(page, most, n, slot, key, value, at, child);
+        Change::Done
+    } else {
+        Change::Unsound
+    }
+}
+
+// As `widen` does it, behind the last entry: nothing is moved.
+fn lengthen(page: &mut [u64], most: usize, n: usize, key: u64, value: u64, child: u64)
+    requires { ⌜ Long most (now page) × (n < most) ⌝ }
+    ensures { λ _. ⌜ Holds most (heightOf (now (page .entry))) (more n (entry key value) (suc n) child (firsts most n (now (page .entry)))) (now (page .exit)) ⌝ }
+{
+    runs::put_at(page, 2, n, key);
+    runs::put_at(page, 2 + most, n, value);
+    if page[1] != 0 {
+        runs::put_at(page, 2 + 2 * most, n + 1, child);
     }
     page[0] = n as u64 + 1;
 }
@@ -231,15 +304,15 @@ pub fn remove(page: &mut [u64], most: usize, slot: usize, at: usize) -> Change
     }
 }
 
-// The same for a page that is known to hold `n` entries.
+// The same for a page that is known to hold `n` entries. All words of each part move, as in `widen`.
 fn narrow(page: &mut [u64], most: usize, n: usize, slot: usize, at: usize)
     requires { ⌜ Long most (now page) × (n ≤ most) × (slot < n) × (at ≤ n) ⌝ }
     ensures { λ _. ⌜ Holds most (heightOf (now (page .entry))) (less slot at (firsts most n (now (page .entry)))) (now (page .exit)) ⌝ }
 {
-    runs::pull_at(page, 2, n, slot);
-    runs::pull_at(page, 2 + most, n, slot);
+    runs::pull_at(page, 2, most, slot);
+    runs::pull_at(page, 2 + most, most, slot);
     if page[1] != 0 {
-        runs::pull_at(page, 2 + 2 * most, n + 1, at);
+        runs::pull_at(page, 2 + 2 * most, most + 1, at);
     }
     page[0] = n as u64 - 1;
 }

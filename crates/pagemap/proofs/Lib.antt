@@ -1,4 +1,3 @@
 -- The laws that the page map's functions, and their callers, are proved with.
-pub mod Word
 pub mod Map
 pub mod Taking

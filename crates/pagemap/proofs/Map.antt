@@ -18,7 +18,7 @@ use Rattle.pagemap.specs.Lowest.{freeIn}
 use Rattle.model.proofs.Cases.{either-lt, either-eq, same-eq, same-other, same-le}
 use Rattle.model.proofs.Sums.{sumTo-ext, sumTo-add, sumTo-le, sumTo-tight}
 use Rattle.model.proofs.PageMap.{bitAt-lt, bitAt-word, bitAt-past, free-count}
-use Rattle.pagemap.proofs.Word.{bit-or, bit-and, bit-not, bit-pow, zeros-below, one-at, ones-sum}
+use Rattle.model.proofs.Word.{bit-or, bit-and, bit-not, bit-pow, zeros-below, one-at, ones-sum}
 
 -- ---- one word is changed
 

@@ -15,6 +15,7 @@ pub mod Planning
 pub mod Moving
 pub mod Pairs
 pub mod Mending
+pub mod Settling
 pub mod Neighbours
 pub mod Leaving
 pub mod Writing

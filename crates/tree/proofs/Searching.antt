@@ -2,7 +2,7 @@
 -- One law for each way in which the search of a page ends.
 -- Assumes nothing.
 use mathlib.Core.Path.{_≡_, refl, sym, ap, subst, _∙_}
-use mathlib.Core.Bool.{true, false, cond}
+use mathlib.Core.Bool.{Bool, true, false, cond}
 use mathlib.Core.Logic.{_≢_}
 use mathlib.Core.Option.{Option, none, some}
 use mathlib.Core.List.{List}
@@ -13,30 +13,27 @@ use lib.ListN.{length, getD}
 use borrow.Author.Tests.{le-leb, lt-leb, lt-ltb, le-ltb, eq-eqb, ne-eqb, leb-true}
 use Rattle.model.specs.Lists.{every}
 use Rattle.model.specs.Layout.{least, pagesIn}
-use Rattle.model.specs.Tree.{Entry, Tree, noEntry, entries, Rising}
+use Rattle.model.specs.Tree.{Entry, Tree, noEntry}
 use Rattle.model.specs.Page.{pageOf, countOf, heightOf, entryIn, childIn, entriesOf}
 use Rattle.model.specs.Standing.{numberOf}
 use Rattle.model.specs.Entries.{gapOf, gapBefore}
 use Rattle.model.specs.Gap.{child, at, Found, deeper, find}
 use Rattle.page.specs.declared.Place.{Place}
 use Rattle.page.specs.declared.Place.the-variants as place
-use Rattle.page.specs.Page.{counted, placeOf}
+use Rattle.page.specs.declared.Slot.the-variants as slot
+use Rattle.page.specs.Page.{counted, gapIn, placeOf}
 use Rattle.lend.specs.Pages.{most}
-use Rattle.tree.specs.declared.search.Aim.{Aim}
-use Rattle.tree.specs.declared.search.Aim.the-variants.{Before, After, Start, End}
 use Rattle.tree.specs.declared.search.Below.{Below}
 use Rattle.tree.specs.declared.search.Below.the-variants as below
 use Rattle.tree.specs.declared.search.Got.{Got}
 use Rattle.tree.specs.declared.search.Got.the-variants as got
-use Rattle.tree.specs.declared.search.Slot.{Slot}
-use Rattle.tree.specs.declared.search.Slot.the-variants as slot
 use Rattle.tree.specs.Sits.{Sits}
-use Rattle.tree.specs.Search.{belowOf, placeAt, lastAt, aimed, beforeSlot, afterSlot, startSlot, slotOf, gotBy, gotOf, GetsBelow}
+use Rattle.tree.specs.Search.{belowOf, placeAt, slotBy, gotBy, gotOf, GetsBelow}
 use Rattle.model.proofs.Cases.{either, either-le, either-lt, never}
 use Rattle.model.proofs.Lists.{every-true}
-use Rattle.model.proofs.Entries.{gap-le, has-at, gap-after-has, at-true, gap-after-absent, gap-start, gap-end}
-use Rattle.model.proofs.Search.{rising-own}
+use Rattle.model.proofs.Entries.{gap-le, at-true, gap-start, gap-end}
 use Rattle.model.proofs.Read.{length-own}
+use Rattle.page.proofs.Finding.{no-slot, one-slot}
 use Rattle.lend.proofs.Lent.{own-at}
 use Rattle.tree.proofs.Saying.{root-count}
 use Rattle.tree.proofs.Sitting.{sits-height, sits-own, sits-some, sits-most, sits-child, sits-below}
@@ -83,41 +80,54 @@ module _ (w : List ℕ) (p h : ℕ) where
   unfolding placeAt
   place-same k n e d = rw (← e, eq-eqb n h d)
 
-  pub last-other : (n : ℕ) → n ≡ heightOf (pageOf w p) → n ≢ h → slot.Unsound ≡ lastAt w p h
-  unfolding lastAt
-  last-other n e d = rw (← e, ne-eqb n h d)
+  pub slot-other : (before : ℕ → Bool) (n : ℕ) → n ≡ heightOf (pageOf w p) → n ≢ h → slot.Unsound ≡ slotBy w p h before
+  unfolding slotBy
+  slot-other before n e d = rw (← e, ne-eqb n h d)
 
-  -- by the page's count n, where the height is right
+  pub slot-same : (before : ℕ → Bool) (n : ℕ) → n ≡ heightOf (pageOf w p) → n ≡ h → gapIn most (pageOf w p) before ≡ slotBy w p h before
+  unfolding slotBy
+  slot-same before n e d = rw (← e, eq-eqb n h d)
+
+  -- the last slot is after every key: by the page's count n, where the height is right
   module _ (t n : ℕ) (e : t ≡ heightOf (pageOf w p)) (d : t ≡ h) (k : n ≡ countOf (pageOf w p)) where
-    pub last-none : n ≡ 0 → slot.Unsound ≡ lastAt w p h
-    unfolding lastAt
+    pub last-none : n ≡ 0 → slot.Unsound ≡ slotBy w p h (λ x. true)
+    unfolding slotBy gapIn
     last-none z = rw (← e, eq-eqb t h d, ← k, z)
 
-    pub last-many : most < n → slot.Unsound ≡ lastAt w p h
-    unfolding lastAt
+    pub last-many : most < n → slot.Unsound ≡ slotBy w p h (λ x. true)
+    unfolding slotBy gapIn
     last-many l = rw (← e, eq-eqb t h d, ← k, le-leb 1 n (omega arith), lt-leb n most l)
 
-    pub last-at : 1 ≤ n → n ≤ most → slot.At n ≡ lastAt w p h
-    unfolding lastAt
-    last-at a b = rw (← e, eq-eqb t h d, ← k, le-leb 1 n a, le-leb n most b)
+    pub last-at : 1 ≤ n → n ≤ most → slot.At n ≡ slotBy w p h (λ x. true)
+    unfolding slotBy gapIn
+    last-at a b = rw (← e, eq-eqb t h d, ← k, le-leb 1 n a, le-leb n most b) (ap slot.At (k ∙ sym (length-own most (pageOf w p)) ∙ sym (gap-end (entriesOf most (pageOf w p)))))
 
--- the slot by what was aimed at
-module _ (w : List ℕ) (p h : ℕ) {aim : Aim} where
-  pub slot-before : {k : ℕ} {r : Place} → aim ≡ Before k → r ≡ placeAt w p h k → beforeSlot r ≡ slotOf w p h aim
-  unfolding slotOf
-  slot-before a e = rw (a, e)
+-- a slot is answered where the page is as it has to be, and is then the test's gap
+module _ (w : List ℕ) (p h : ℕ) (before : ℕ → Bool) where
+  slot-held : {i : ℕ} → slot.At i ≡ slotBy w p h before
+      → (eqb (heightOf (pageOf w p)) h ≡ true) × (every (counted most (pageOf w p)) ≡ true) × (i ≡ gapOf before (entriesOf most (pageOf w p)))
+  unfolding slotBy gapIn
+  slot-held e =
+      either (eqb (heightOf (pageOf w p)) h)
+      (λ y. either (every (counted most (pageOf w p))) (λ t. (y, t, one-slot (rw (y, t) at e))) (λ f. no-slot (sym (rw (y, f) at e))))
+      (λ n. no-slot (sym (rw n at e)))
 
-  pub slot-after : {k : ℕ} {r : Place} → aim ≡ After k → r ≡ placeAt w p h k → afterSlot r ≡ slotOf w p h aim
-  unfolding slotOf
-  slot-after a e = rw (a, e)
+  pub slot-few : {i : ℕ} → slot.At i ≡ slotBy w p h before → i ≤ most
+  slot-few e =
+      let held = slot-held e in
+      omega (arith, held .2, gap-le before (entriesOf most (pageOf w p)), length-own most (pageOf w p), leb-true (countOf (pageOf w p)) most (every-true (counted most (pageOf w p)) (held .1) .1 .0))
 
-  pub slot-start : {r : Slot} → aim ≡ Start → r ≡ lastAt w p h → startSlot r ≡ slotOf w p h aim
-  unfolding slotOf
-  slot-start a e = rw (a, e)
+-- the first slot is there where the last is
+pub start-at : (w : List ℕ) (p h : ℕ) {i : ℕ} → slot.At i ≡ slotBy w p h (λ x. true) → slot.At 0 ≡ slotBy w p h (λ x. false)
+unfolding slotBy gapIn
+start-at w p h e = let held = slot-held w p h (λ x. true) e in rw (held .0, held .1) (ap slot.At (sym (gap-start (entriesOf most (pageOf w p)))))
 
-  pub slot-end : {r : Slot} → aim ≡ End → r ≡ lastAt w p h → r ≡ slotOf w p h aim
-  unfolding slotOf
-  slot-end a e = rw (a, e)
+pub start-lost : (w : List ℕ) (p h : ℕ) → slot.Unsound ≡ slotBy w p h (λ x. true) → slot.Unsound ≡ slotBy w p h (λ x. false)
+unfolding slotBy gapIn
+start-lost w p h e =
+    either (eqb (heightOf (pageOf w p)) h)
+    (λ y. either (every (counted most (pageOf w p))) (λ t. no-slot (rw (y, t) at e)) (λ f. rw (y, f)))
+    (λ n. rw n)
 
 -- ---- the slots that any words can answer
 
@@ -144,48 +154,6 @@ place-few w p h k =
 pub here-few : (w : List ℕ) (p h k i : ℕ) → placeAt w p h k ≡ place.Here i → i < most
 here-few w p h k i e = subst Few e (place-few w p h k)
 
-abbrev FewSlot : Slot → Type 0
-FewSlot (slot.At i) = i ≤ most
-FewSlot slot.Unsound = Unit {0}
-
-before-few : (r : Place) → Few r → FewSlot (beforeSlot r)
-before-few (place.Here i) l = omega arith
-before-few (place.Gap i) l = l
-before-few place.Unsound l = tt
-
-after-few : (r : Place) → Few r → FewSlot (afterSlot r)
-after-few (place.Here i) l = omega arith
-after-few (place.Gap i) l = l
-after-few place.Unsound l = tt
-
-start-few : (r : Slot) → FewSlot (startSlot r)
-start-few (slot.At i) = omega arith
-start-few slot.Unsound = tt
-
-last-few : (w : List ℕ) (p h : ℕ) → FewSlot (lastAt w p h)
-unfolding lastAt
-last-few w p h =
-    either (eqb (heightOf (pageOf w p)) h)
-    (λ y. rw y (either (every (counted most (pageOf w p)))
-    (λ t. rw t (let tests = every-true (counted most (pageOf w p)) t in omega (arith, leb-true)))
-    (λ f. rw f tt)))
-    (λ n. rw n tt)
-
-slot-bounded : (w : List ℕ) (p h : ℕ) (aim : Aim) → FewSlot (slotOf w p h aim)
-unfolding slotOf
-slot-bounded w p h (Before k) = before-few (placeAt w p h k) (place-few w p h k)
-slot-bounded w p h (After k) = after-few (placeAt w p h k) (place-few w p h k)
-slot-bounded w p h Start = start-few (lastAt w p h)
-slot-bounded w p h End = last-few w p h
-
-pub slot-few : (w : List ℕ) (p h : ℕ) (aim : Aim) (i : ℕ) → slotOf w p h aim ≡ slot.At i → i ≤ most
-slot-few w p h aim i e = subst FewSlot e (slot-bounded w p h aim)
-
--- a page's own entries rise where all that it holds rises
-pub own-rising : (h : ℕ) (t : Tree (suc h)) → Rising (entries (suc h) t) → Rising (t .own)
-unfolding entries
-own-rising h t r = rising-own (entries h) (t .children) (t .own) r
-
 -- ---- a tree that sits in the pool
 
 module _ (w : List ℕ) (low h : ℕ) (t : Tree (suc h)) (s : Sits w low (suc h) t) where
@@ -197,21 +165,10 @@ module _ (w : List ℕ) (low h : ℕ) (t : Tree (suc h)) (s : Sits w low (suc h)
   unfolding placeAt placeOf
   sits-place k = rw (sits-height w low h t s, eq-eqb h h refl, sits-counted, sits-own w low h t s)
 
-  sits-last : lastAt w (t .page) h ≡ slot.At (length (t .own))
-  unfolding lastAt
-  sits-last = rw (sits-height w low h t s, eq-eqb h h refl, sits-counted, root-count w h t (s .stands))
-
-  -- the page's slot for an aim is the aim's gap among its entries
-  pub sits-aim : (aim : Aim) → Rising (t .own) → slotOf w (t .page) h aim ≡ slot.At (gapOf (aimed aim) (t .own))
-  unfolding slotOf
-  sits-aim (Before k) r =
-      rw (sits-place k) (either (at k (t .own) (gapBefore k (t .own))) (λ y. rw y) (λ n. rw n))
-  sits-aim (After k) r =
-      rw (sits-place k) (either (at k (t .own) (gapBefore k (t .own)))
-      (λ y. rw (y, gap-after-has k (t .own) r (has-at k (t .own) r ∙ y)))
-      (λ n. rw (n, gap-after-absent k (t .own) r (has-at k (t .own) r ∙ n))))
-  sits-aim Start r = rw (sits-last, gap-start (t .own))
-  sits-aim End r = rw (sits-last, gap-end (t .own))
+  -- the page's slot for a test is the test's gap among its entries
+  pub sits-slot : (before : ℕ → Bool) → slotBy w (t .page) h before ≡ slot.At (gapOf before (t .own))
+  unfolding slotBy gapIn
+  sits-slot before = rw (sits-height w low h t s, eq-eqb h h refl, sits-counted, sits-own w low h t s)
 
 -- ---- get: how the search of a page ends
 

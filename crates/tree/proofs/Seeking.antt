@@ -22,16 +22,16 @@ use Rattle.tree.specs.declared.search.Aim.the-variants.{Before, After, S
 use Rattle.tree.specs.declared.search.Below.the-variants as below
 use Rattle.tree.specs.declared.search.Got.{Got}
 use Rattle.tree.specs.declared.search.Got.the-variants as got
-use Rattle.tree.specs.declared.search.Slot.the-variants as slot
+use Rattle.page.specs.declared.Slot.the-variants as slot
 use Rattle.tree.specs.Sits.{PathIn, PathOf, Sits, From}
-use Rattle.tree.specs.Search.{belowOf, slotOf, aimed, gotOf, GetsBelow, Gets, SeeksBelow, Seeks}
+use Rattle.tree.specs.Search.{belowOf, slotBy, aimed, gotOf, GetsBelow, Gets, SeeksBelow, Seeks}
 use Rattle.model.proofs.Cases.{contrary, never}
 use Rattle.model.proofs.Entries.{Falls, falls-below, falls-up-to, gap-le}
 use Rattle.model.proofs.Search.{seekChild, seek-rising, seek-pages, seek-slots, find-held}
 use Rattle.model.proofs.Right.{sound-right}
 use Rattle.model.proofs.Written.{sound-written}
 use Rattle.tree.proofs.Sitting.{sits-child, sits-below, sound-sits}
-use Rattle.tree.proofs.Searching.{slot-few, own-rising, sits-aim}
+use Rattle.tree.proofs.Searching.{slot-few, sits-slot}
 
 module _ (w : List ℕ) (p : ℕ) (aim : Aim) where
   -- the path that is to be found
@@ -55,24 +55,24 @@ module _ (w : List ℕ) (p : ℕ) (aim : Aim) where
   seeks-none a b d = seeks a b (λ e. contrary e refl) (λ low h t n s r q. absurd (d low h t n s r q))
 
   -- the page's slot, as its words have it, is the tree's
-  slot-is : (n i : ℕ) → slotOf w p n aim ≡ slot.At i → From w p (suc n) (λ h t. gapOf (aimed aim) (t .own) ≡ i)
+  slot-is : (n i : ℕ) → slotBy w p n (aimed aim) ≡ slot.At i → From w p (suc n) (λ h t. gapOf (aimed aim) (t .own) ≡ i)
   slot-is n i e low h t k s r q =
       let n-is-h : n ≡ h = omega arith in
-      let at : slotOf w p h aim ≡ slot.At i = subst (λ m. slotOf w p m aim ≡ slot.At i) n-is-h e in
-      let here : slotOf w p h aim ≡ slot.At (gapOf (aimed aim) (t .own)) = rw (← q) (sits-aim w low h t s aim (own-rising h t r)) in
+      let at : slotBy w p h (aimed aim) ≡ slot.At i = subst (λ m. slotBy w p m (aimed aim) ≡ slot.At i) n-is-h e in
+      let here : slotBy w p h (aimed aim) ≡ slot.At (gapOf (aimed aim) (t .own)) = rw (← q) (sits-slot w low h t s (aimed aim)) in
       cc
 
-  slot-never : (n : ℕ) → slotOf w p n aim ≡ slot.Unsound → From w p (suc n) (λ h t. ⊥)
+  slot-never : (n : ℕ) → slotBy w p n (aimed aim) ≡ slot.Unsound → From w p (suc n) (λ h t. ⊥)
   slot-never n e low h t k s r q =
       let n-is-h : n ≡ h = omega arith in
-      let at : slotOf w p h aim ≡ slot.Unsound = subst (λ m. slotOf w p m aim ≡ slot.Unsound) n-is-h e in
-      let here : slotOf w p h aim ≡ slot.At (gapOf (aimed aim) (t .own)) = rw (← q) (sits-aim w low h t s aim (own-rising h t r)) in
+      let at : slotBy w p h (aimed aim) ≡ slot.Unsound = subst (λ m. slotBy w p m (aimed aim) ≡ slot.Unsound) n-is-h e in
+      let here : slotBy w p h (aimed aim) ≡ slot.At (gapOf (aimed aim) (t .own)) = rw (← q) (sits-slot w low h t s (aimed aim)) in
       never (cc)
 
-  seek-unsound : (n : ℕ) (ps ss : List ℕ) → suc n ≡ length ps → slotOf w p n aim ≡ slot.Unsound → SeeksBelow w p aim ps ss ps ss false
+  seek-unsound : (n : ℕ) (ps ss : List ℕ) → suc n ≡ length ps → slotBy w p n (aimed aim) ≡ slot.Unsound → SeeksBelow w p aim ps ss ps ss false
   seek-unsound n ps ss k e = seeks-none refl refl (subst (λ m. From w p m (λ h t. ⊥)) k (slot-never n e))
 
-  module _ (n i : ℕ) (e : slotOf w p n aim ≡ slot.At i) where
+  module _ (n i : ℕ) (e : slotBy w p n (aimed aim) ≡ slot.At i) where
     -- the child, as the page's words have it, is the tree's
     child-is : 0 < n → From w p (suc n) (λ h t. belowOf w p i ≡ below.Page (numberOf h (seekChild (aimed aim) h t)))
     child-is l low h t k s r q =
@@ -86,7 +86,7 @@ module _ (w : List ℕ) (p : ℕ) (aim : Aim) where
 
     seek-end : Inside p w → (x y : ℕ) (ps ss : List ℕ) → n ≡ 0 → length ps ≡ 0 → length ss ≡ 0 → SeeksBelow w p aim (x ∷ ps) (y ∷ ss) (p ∷ ps) (i ∷ ss) true
     seek-end inside x y [] [] z a b =
-        seeks refl refl (λ y. record { even = refl; inside = (inside, tt); slots = (slot-few w p n aim i e, tt) })
+        seeks refl refl (λ y. record { even = refl; inside = (inside, tt); slots = (slot-few w p n (aimed aim) (sym e), tt) })
         (λ low h t k s r q. leaf-finds z low h t (omega arith) s r q)
     seek-end inside x y [] (y′ ∷ ss) z a b = absurd (omega arith)
     seek-end inside x y (x′ ∷ ps) ss z a b = absurd (omega arith)
@@ -119,7 +119,7 @@ module _ (w : List ℕ) (p : ℕ) (aim : Aim) where
         (λ yes-case. let path = g .inside yes-case in record {
           even = ap suc (path .even);
           inside = (inside, path .inside);
-          slots = (slot-few w p n aim i e, path .slots);
+          slots = (slot-few w p n (aimed aim) (sym e), path .slots);
         })
         (λ low h t k′ s r q. down-finds c b l k g low h t (ap suc k ∙ k′) s r q)
 
@@ -133,13 +133,13 @@ Rest w p aim ps₀ ss₀ at i ps ss =
 -- where n levels are left below page `at`
 module _ (w : List ℕ) (p : ℕ) (aim : Aim) (ps₀ ss₀ : List ℕ) (at i : ℕ) (ps ss : List ℕ) (rest : Rest w p aim ps₀ ss₀ at i ps ss)
     (n : ℕ) (long : i + suc n ≡ length ps) (even : length ps ≡ length ss) where
-  pub rest-unsound : slotOf w at n aim ≡ slot.Unsound → SeeksBelow w p aim ps₀ ss₀ ps ss false
+  pub rest-unsound : slotBy w at n (aimed aim) ≡ slot.Unsound → SeeksBelow w p aim ps₀ ss₀ ps ss false
   rest-unsound e =
       let left : suc n ≡ length (drop i ps) = rw (length-drop i ps) (omega arith) in
       let found = rest false (drop i ps) (drop i ss) (seek-unsound w at aim n (drop i ps) (drop i ss) left e) in
       rw (take-append-drop i ps, take-append-drop i ss) at found
 
-  module _ (s : ℕ) (e : slotOf w at n aim ≡ slot.At s) where
+  module _ (s : ℕ) (e : slotBy w at n (aimed aim) ≡ slot.At s) where
     stored : (r : Bool) → SeeksBelow w at aim (getD ps i 0 ∷ drop (suc i) ps) (getD ss i 0 ∷ drop (suc i) ss) (at ∷ drop (suc i) ps) (s ∷ drop (suc i) ss) r
         → SeeksBelow w p aim ps₀ ss₀ (set ps i at) (set ss i s) r
     stored r g =

@@ -124,7 +124,7 @@ module _ (w w₁ : List ℕ) (low h : ℕ) (t : Tree (suc (suc h))) (g : ℕ) (r
   kept-below : (q : ℕ) → times q (suc h) x ≡ 0 → pageOf w₁ q ≡ pageOf w q
   kept-below q z = below .touches .others q (near-apart least h x o q x-shaped fits z)
 
-  kept-page : pageOf w₁ (t .page) ≡ pageOf w (t .page)
+  pub kept-page : pageOf w₁ (t .page) ≡ pageOf w (t .page)
   kept-page = kept-below (t .page) (omega (arith, apart (t .page), same-self (t .page)))
 
   module _ (w₂ : List ℕ) (r₂ : Gone) (heir : Inherits (t .page) i r₁ w₁ w₂ r₂) where
@@ -175,6 +175,12 @@ module _ (w w₁ : List ℕ) (low h : ℕ) (t : Tree (suc (suc h))) (g : ℕ) (r
           u-holds,
           set-standing least (pageOf w) (pageOf w₂) (suc h) i c (t .children) inside (λ q l. away q (omega (arith, apart q)) (omega (arith, apart q))) (s .stands .1) here,
         )
+
+    -- with an heir or without, the page keeps its count
+    pub kept-count : countOf (pageOf w₂ (t .page)) ≡ countOf (pageOf w (t .page))
+    kept-count =
+        let long : length (u .own) ≡ length (t .own) = simp length-set refl in
+        root-count w₂ (suc h) u u-standing ∙ long ∙ sym (root-count w (suc h) t (s .stands))
 
     -- what is handed up
     u-handed : r₂ ≡ goneOf (suc (suc h)) t g
@@ -279,21 +285,31 @@ module _ (w w′ ps ss : List ℕ) (r : Gone) (one : length ps ≡ 1) (takes : T
   removes-leaf : RemovesBelow w ps ss w′ r
   removes-leaf = record { long = takes .only .long; head = only-touches (takes .only) .head; shrinks = λ low h t g s b path marked. leaf-path low h t g s b path }
 
+-- of each tree that sits there, with its pages marked, and each gap of it that has this path
+abbrev pub Along : (w ps ss : List ℕ) → ((h : ℕ) → Tree (suc h) → ℕ → Type 0) → Type 0
+Along w ps ss P = (low h : ℕ) (t : Tree (suc h)) (g : ℕ) → Sits w low (suc h) t → g ≤ size (suc h) t → PathOf (suc h) t g ps ss → Marked w (suc h) t → P h t g
+
+-- what is so of each from the next place on is so of the child on the path
+pub along-child : (w ps ss : List ℕ) (P : (h : ℕ) → Tree (suc h) → ℕ → Type 0) → Along w (behind ps) (behind ss) P
+    → (low h : ℕ) (t : Tree (suc (suc h))) (g : ℕ) → Sits w low (suc (suc h)) t → g ≤ size (suc (suc h)) t → PathOf (suc (suc h)) t g ps ss → Marked w (suc (suc h)) t
+    → P h (childAt (suc h) t g) (restAt (suc h) t g)
+along-child w ps ss P below low h t g s b path marked =
+    let inside = way-down least low (suc h) t g (s .shaped) b .inside in
+    below least h (childAt (suc h) t g) (restAt (suc h) t g)
+    (sits-child w low (suc h) t s (slotAt (suc h) t g) (sits-slot w low (suc h) t s g b)) (sits-rest w low (suc h) t s g b)
+    (path-behind (suc h) t g ps ss path)
+    (λ q. omega (arith, marked q, times-child q (suc h) t (slotAt (suc h) t g) inside))
+
 module _ (w w₁ w₂ w₃ ps ss : List ℕ) (r₁ r₂ : Gone) (more : 2 ≤ length ps) (below : RemovesBelow w (behind ps) (behind ss) w₁ r₁)
     (heir : Inherits (getD ps 0 0) (getD ss 0 0) r₁ w₁ w₂ r₂) (mends : Mends (getD ps 0 0) (getD ss 0 0) w₂ w₃) where
-  upper-path : (low h : ℕ) (t : Tree (suc h)) (g : ℕ) → Sits w low (suc h) t → g ≤ size (suc h) t → PathOf (suc h) t g ps ss → Marked w (suc h) t → Shrinks w h t g w₃ r₂
+  pub upper-path : Along w ps ss (λ h t g. Shrinks w h t g w₃ r₂)
   unfolding gapPages gapSlots
   upper-path low zero t g s b path marked = absurd (omega (arith, ap length (path .pages)))
   upper-path low (suc h) t g s b path marked =
       let p : getD ps 0 0 ≡ t .page = first-page (suc (suc h)) t g (omega arith) (path .pages) in
       let i : getD ss 0 0 ≡ slotAt (suc h) t g = first-slot (suc h) t g (path .slots) in
-      let inside = way-down least low (suc h) t g (s .shaped) b .inside in
-      let shrinks = below .shrinks least h (childAt (suc h) t g) (restAt (suc h) t g)
-      (sits-child w low (suc h) t s (slotAt (suc h) t g) (sits-slot w low (suc h) t s g b)) (sits-rest w low (suc h) t s g b)
-      (path-behind (suc h) t g ps ss path)
-      (λ q. omega (arith, marked q, times-child q (suc h) t (slotAt (suc h) t g) inside)) in
-      upper-shrinks w w₁ low h t g r₁ s b marked shrinks w₂ r₂ (subst₂ (λ (p i : ℕ). Inherits p i r₁ w₁ w₂ r₂) p i heir) w₃
-      (subst₂ (λ (p i : ℕ). Mends p i w₂ w₃) p i mends)
+      upper-shrinks w w₁ low h t g r₁ s b marked (along-child w ps ss (λ h t g. Shrinks w h t g w₁ r₁) (below .shrinks) low h t g s b path marked) w₂ r₂
+      (subst₂ (λ (p i : ℕ). Inherits p i r₁ w₁ w₂ r₂) p i heir) w₃ (subst₂ (λ (p i : ℕ). Mends p i w₂ w₃) p i mends)
 
   removes-upper : RemovesBelow w ps ss w₃ r₂
   removes-upper = record {

@@ -8,10 +8,9 @@ use mathlib.Core.List.{List}
 use Prim.Native.Nat.{ℕ, suc, _+_}
 use lib.Dec.{leb, ltb, eqb}
 use lib.ListN.{length}
-use Rattle.model.specs.Lists.{every}
 use Rattle.model.specs.Layout.{pagesIn}
 use Rattle.model.specs.Tree.{Tree}
-use Rattle.model.specs.Page.{pageOf, countOf, heightOf, childIn}
+use Rattle.model.specs.Page.{pageOf, heightOf, childIn}
 use Rattle.model.specs.Entries.{lookup, gapOf}
 use Rattle.model.specs.Gap.{Found, seekPages, seekSlots, find}
 use Rattle.model.specs.Pool.{heldBy, poolOf}
@@ -19,7 +18,9 @@ use Rattle.model.specs.Sound.{Sound}
 use Rattle.model.specs.MapCalls.{pagesRead}
 use Rattle.page.specs.declared.Place.{Place}
 use Rattle.page.specs.declared.Place.the-variants as place
-use Rattle.page.specs.Page.{counted, placeOf}
+use Rattle.page.specs.declared.Slot.{Slot}
+use Rattle.page.specs.declared.Slot.the-variants as slot
+use Rattle.page.specs.Page.{gapIn, placeOf}
 use Rattle.lend.specs.Pages.{most}
 use Rattle.tree.specs.declared.search.Aim.{Aim}
 use Rattle.tree.specs.declared.search.Aim.the-variants.{Before, After, Start, End}
@@ -27,8 +28,6 @@ use Rattle.tree.specs.declared.search.Below.{Below}
 use Rattle.tree.specs.declared.search.Below.the-variants as below
 use Rattle.tree.specs.declared.search.Got.{Got}
 use Rattle.tree.specs.declared.search.Got.the-variants as got
-use Rattle.tree.specs.declared.search.Slot.{Slot}
-use Rattle.tree.specs.declared.search.Slot.the-variants as slot
 use Rattle.tree.specs.Sits.{PathIn, PathOf, Sits, From}
 
 -- ---- one page
@@ -43,10 +42,9 @@ belowOf w p at =
 unfoldable pub placeAt : List ℕ → ℕ → ℕ → ℕ → Place
 placeAt w p h k = cond (eqb (heightOf (pageOf w p)) h) (placeOf most (pageOf w p) k) place.Unsound
 
--- its last slot
-unfoldable pub lastAt : List ℕ → ℕ → ℕ → Slot
-lastAt w p h =
-    cond (eqb (heightOf (pageOf w p)) h) (cond (every (counted most (pageOf w p))) (slot.At (countOf (pageOf w p))) slot.Unsound) slot.Unsound
+-- the slot of the gap after the entries of page p, whose height is to be h, whose keys pass a test
+unfoldable pub slotBy : List ℕ → ℕ → ℕ → (ℕ → Bool) → Slot
+slotBy w p h before = cond (eqb (heightOf (pageOf w p)) h) (gapIn most (pageOf w p) before) slot.Unsound
 
 -- ---- what is looked for: a gap, by the keys that come before it
 
@@ -55,27 +53,6 @@ aimed (Before k) x = ltb x k
 aimed (After k) x = leb x k
 aimed Start x = false
 aimed End x = true
-
--- the slot of that gap
-abbrev pub beforeSlot : Place → Slot
-beforeSlot (place.Here i) = slot.At i
-beforeSlot (place.Gap i) = slot.At i
-beforeSlot place.Unsound = slot.Unsound
-
-abbrev pub afterSlot : Place → Slot
-afterSlot (place.Here i) = slot.At (suc i)
-afterSlot (place.Gap i) = slot.At i
-afterSlot place.Unsound = slot.Unsound
-
-abbrev pub startSlot : Slot → Slot
-startSlot (slot.At i) = slot.At 0
-startSlot slot.Unsound = slot.Unsound
-
-unfoldable pub slotOf : List ℕ → ℕ → ℕ → Aim → Slot
-slotOf w p h (Before k) = beforeSlot (placeAt w p h k)
-slotOf w p h (After k) = afterSlot (placeAt w p h k)
-slotOf w p h Start = startSlot (lastAt w p h)
-slotOf w p h End = lastAt w p h
 
 -- ---- what is answered
 

@@ -176,6 +176,7 @@ fn inherit(pool: &mut [u64], p: usize, s: usize, gone: Gone) -> Gone
 }
 
 // From the leaf upward: the entry goes there, and each page above takes in what comes up and mends its child on the path.
+// A page that hands nothing up, and whose child has enough, is the last: no page above it changes.
 fn remove_along(pool: &mut [u64], pages: &[usize], slots: &[usize]) -> Gone
     requires { ⌜ (firstWord 0 ≤ length (now pool)) × (1 ≤ length (now pages)) ⌝ }
     requires { ⌜ PathIn (now pool) (now pages) (now slots) ⌝ }
@@ -186,7 +187,13 @@ fn remove_along(pool: &mut [u64], pages: &[usize], slots: &[usize]) -> Gone
     while 0 < i {
         i -= 1;
         gone = inherit(pool, pages[i], slots[i], gone);
-        mend(pool, pages[i], slots[i]);
+        if LEAST <= count_below(pool, pages[i], slots[i]) {
+            if let Gone::Taken = gone {
+                return Gone::Taken;
+            }
+        } else {
+            mend(pool, pages[i], slots[i]);
+        }
     }
     gone
 }

@@ -1,19 +1,21 @@
 // Search, by key to its value and the pages read, and by key or bound to the path of its gap. Each page is tested as it is read: its number lies inside the pool, its
 // count is 1 to 9, its height is the one that its level asks. Anything else is `Unsound`, and nothing has been stored.
 ghost use mathlib.Core.Path.{_≡_};
-ghost use mathlib.Core.Bool.{true};
+ghost use mathlib.Core.Bool.{true, false};
 ghost use Prim.Native.Nat.{_+_, _≤_, _<_};
 ghost use lib.ListN.{length};
 ghost use Rattle.model.specs.Layout.{mostLevels, firstWord};
 ghost use Rattle.model.specs.Head.{levelsWord, headed};
+ghost use Rattle.page.specs.Runs.{upTo};
 ghost use Rattle.lend.specs.Pages.{Inside};
-ghost use Rattle.tree.specs.Search.{belowOf, placeAt, lastAt, slotOf, GetsBelow, Gets, SeeksBelow, Seeks};
+ghost use Rattle.tree.specs.Search.{belowOf, placeAt, aimed, slotBy, GetsBelow, Gets, SeeksBelow, Seeks};
 use lend::bits;
 use lend::pages;
 use model::LEVELS;
 use model::MOST;
 use model::ROOT;
 use page::Place;
+use page::Slot;
 
 // A child's page, where it lies inside the pool.
 pub enum Below {
@@ -34,12 +36,6 @@ pub enum Aim {
     After(u64),
     Start,
     End,
-}
-
-// A slot of a page, where the page can be.
-pub enum Slot {
-    At(usize),
-    Unsound,
 }
 
 // The page of the child at a place.
@@ -110,22 +106,36 @@ pub fn get(pool: &[u64], key: u64) -> Got
     get_below(pool, root, levels - 1, key, 0)
 }
 
+// The slot of the gap before `key` in page `p`, whose height is to be `h`.
+fn before_in(pool: &[u64], p: usize, h: usize, key: u64) -> Slot
+    requires { ⌜ Inside p (now pool) ⌝ }
+    ensures { λ r. ⌜ r ≡ slotBy (now (pool .entry)) p h (upTo key false) ⌝ }
+{
+    if pages::height(pool, p) != h as u64 {
+        return Slot::Unsound;
+    }
+    pages::gap_before(pool, p, key)
+}
+
+// The slot of the gap after `key` in page `p`, whose height is to be `h`.
+fn after_in(pool: &[u64], p: usize, h: usize, key: u64) -> Slot
+    requires { ⌜ Inside p (now pool) ⌝ }
+    ensures { λ r. ⌜ r ≡ slotBy (now (pool .entry)) p h (upTo key true) ⌝ }
+{
+    if pages::height(pool, p) != h as u64 {
+        return Slot::Unsound;
+    }
+    pages::gap_after(pool, p, key)
+}
+
 // The slot of the aim's gap in page `p`, whose height is to be `h`.
 fn slot_in(pool: &[u64], p: usize, h: usize, aim: Aim) -> Slot
     requires { ⌜ Inside p (now pool) ⌝ }
-    ensures { λ r. ⌜ r ≡ slotOf (now (pool .entry)) p h aim ⌝ }
+    ensures { λ r. ⌜ r ≡ slotBy (now (pool .entry)) p h (aimed aim) ⌝ }
 {
     match aim {
-        Aim::Before(key) => match look(pool, p, h, key) {
-            Place::Here(i) => Slot::At(i),
-            Place::Gap(i) => Slot::At(i),
-            Place::Unsound => Slot::Unsound,
-        },
-        Aim::After(key) => match look(pool, p, h, key) {
-            Place::Here(i) => Slot::At(i + 1),
-            Place::Gap(i) => Slot::At(i),
-            Place::Unsound => Slot::Unsound,
-        },
+        Aim::Before(key) => before_in(pool, p, h, key),
+        Aim::After(key) => after_in(pool, p, h, key),
         Aim::Start => match last_slot(pool, p, h) {
             Slot::At(_) => Slot::At(0),
             Slot::Unsound => Slot::Unsound,
@@ -137,7 +147,7 @@ fn slot_in(pool: &[u64], p: usize, h: usize, aim: Aim) -> Slot
 // The last slot of page `p`, whose height is to be `h`.
 fn last_slot(pool: &[u64], p: usize, h: usize) -> Slot
     requires { ⌜ Inside p (now pool) ⌝ }
-    ensures { λ r. ⌜ r ≡ lastAt (now (pool .entry)) p h ⌝ }
+    ensures { λ r. ⌜ r ≡ slotBy (now (pool .entry)) p h (λ x. true) ⌝ }
 {
     if pages::height(pool, p) != h as u64 {
         return Slot::Unsound;

@@ -1,72 +1,60 @@
--- `page::find` meets its contract: each answer by the tests that led there. Assumes nothing.
+-- `page::find` meets its contract: the gap before the key, and whether the key stands after it. Assumes nothing.
+use mathlib.Core.Path.{_≡_, sym, _∙_}
+use mathlib.Core.Bool.{false}
+use native.Mathlib.Omega.{arith}
 use borrow.Author.Needs.{needs}
-use Rattle.page.proofs.Finding.{find-none, find-many, find-here, find-other, find-end}
+use Rattle.page.specs.declared.Slot.the-variants.{At}
+use Rattle.page.specs.Runs.{upTo}
+use Rattle.page.specs.Page.{gapIn}
+use Rattle.page.proofs.Finding.{place-lost, gap-few, place-here, place-gap}
 use Rattle.page.proofs.find.Statement.{statement}
 use Rattle.page.proofs.find.Tie as tie
 
-shared-slice-read-n : tie.Need-shared-slice-read-n
-shared-slice-read-n c = search needs
+gap-before-requires : tie.Need-gap-before-requires
+gap-before-requires c κs = search needs
+
+enum-known-slot : tie.Need-enum-known-slot
+enum-known-slot c = search needs
+
+enum-told : tie.Need-enum-told
+enum-told c = search needs
 
 returns : tie.Need-returns
-returns c = find-none _ _ _ (c .if1 .taken)
+returns c = place-lost _ _ _ (sym (c .enum-told .given .1) ∙ c .before .before .gap-before .ensures)
+
+shared-slice-read-if1 : tie.Need-shared-slice-read-if1
+shared-slice-read-if1 c = search needs
+
+-- the slot of the gap before the key
+before : (c : tie.After-slot) → let a = c .before .before .before .before .args in At (c .slot .given .0 .0) ≡ gapIn (a .most) (a .page .now) (upTo (a .key) false)
+before c = sym (c .slot .given .1) ∙ c .before .before .gap-before .ensures
+
+add-if1 : tie.Need-add-if1
+add-if1 c = let few = gap-few _ _ _ _ (before (c .before .before)) in omega (arith, few .0, few .1)
+
+mul-if1 : tie.Need-mul-if1
+mul-if1 c = let few = gap-few _ _ _ _ (before (c .before .before)) in omega (arith, few .0, few .1)
+
+shared-slice-read-if1-2 : tie.Need-shared-slice-read-if1-2
+shared-slice-read-if1-2 c = let few = gap-few _ _ _ _ (before (c .before .before .before)) in omega (arith, few .0, few .1)
 
 returns-2 : tie.Need-returns-2
-returns-2 c = find-many _ _ _ (c .if2 .taken)
-
-add-scan : tie.Need-add-scan
-add-scan c = search needs
-
-sub-scan : tie.Need-sub-scan
-sub-scan c = search needs
-
-part-scan-start : tie.Need-part-scan-start
-part-scan-start c = search needs
-
-part-scan-end : tie.Need-part-scan-end
-part-scan-end c = search needs
-
-scan-requires : tie.Need-scan-requires
-scan-requires c κs = search needs
-
-add-if4 : tie.Need-add-if4
-add-if4 c = search needs
-
-mul-if4 : tie.Need-mul-if4
-mul-if4 c = search needs
-
-shared-slice-read-if4 : tie.Need-shared-slice-read-if4
-shared-slice-read-if4 c = search needs
+returns-2 c = place-here _ _ _ _ (before (c .before .before .before .before)) (c .if1 .taken)
 
 returns-3 : tie.Need-returns-3
-returns-3 c =
-    let a = c .before .before .before .before .before .before .before .before .before in
-    find-here (a .args .most) (a .args .page .now) (a .args .key) _ (a .pre) (search needs) (search needs) (c .before .before .before .scan .ensures) (search needs) (c .if4 .taken)
-
-returns-4 : tie.Need-returns-4
-returns-4 c =
-    let a = c .before .before .before .before .before .before .before .before .before in
-    find-other (a .args .most) (a .args .page .now) (a .args .key) _ (a .pre) (search needs) (search needs) (c .before .before .before .scan .ensures) (search needs) (c .if4 .left)
-
-returns-5 : tie.Need-returns-5
-returns-5 c =
-    let a = c .before .before .before .before .before .before .before in
-    find-end (a .args .most) (a .args .page .now) (a .args .key) _ (a .pre) (search needs) (search needs) (c .before .scan .ensures) (search needs)
+returns-3 c = place-gap _ _ _ _ (before (c .before .before .before .before)) (c .if1 .left)
 
 pub find-spec : {M : Type 1} → statement M
 find-spec =
     tie.close
     (tie.spec
-    shared-slice-read-n
+    gap-before-requires
+    enum-known-slot
+    enum-told
     returns
+    shared-slice-read-if1
+    add-if1
+    mul-if1
+    shared-slice-read-if1-2
     returns-2
-    add-scan
-    sub-scan
-    part-scan-start
-    part-scan-end
-    scan-requires
-    add-if4
-    mul-if4
-    shared-slice-read-if4
-    returns-3
-    returns-4
-    returns-5)
+    returns-3)

@@ -49,7 +49,7 @@ returns c =
     let c₂ = c .before .before .before .before in
     let c₁ = c₂ .before .before .before .before in
     let a = c₁ .before .before .before in
-    narrowed (a .args .most) (a .args .n) (a .args .slot) (a .args .at) (a .pre .0) (a .pre .1) (a .pre .2) (c₁ .pull-at .ensures) (c₂ .pull-at2 .ensures)
+    narrowed (a .args .most) (a .args .n) (a .args .slot) (a .args .at) (a .pre .0) (a .pre .1) (a .pre .2) (a .pre .3) (c₁ .pull-at .ensures) (c₂ .pull-at2 .ensures)
     (⊎-elim (λ g. above-done (g .2 .ensures) (g .5)) (λ g. leaf-left (g .0 .left) (g .1)) (c .if1 .came))
 
 pub narrow-spec : {M : Type 1} → statement M

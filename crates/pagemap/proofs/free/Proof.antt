@@ -8,7 +8,7 @@ use lib.Seq.{set-out}
 use borrow.Author.Needs.{needs}
 use Rattle.model.specs.Layout.{word}
 use Rattle.pagemap.specs.Bits.{clearBit}
-use Rattle.pagemap.proofs.Word.{shl-one}
+use Rattle.model.proofs.Word.{shl-one}
 use Rattle.pagemap.proofs.free.Statement.{statement}
 use Rattle.pagemap.proofs.free.Tie as tie
 

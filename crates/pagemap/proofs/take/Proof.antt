@@ -8,7 +8,7 @@ use lib.Seq.{set-out}
 use borrow.Author.Needs.{needs}
 use Rattle.model.specs.Layout.{word}
 use Rattle.pagemap.specs.Bits.{setBit}
-use Rattle.pagemap.proofs.Word.{shl-one}
+use Rattle.model.proofs.Word.{shl-one}
 use Rattle.pagemap.proofs.take.Statement.{statement}
 use Rattle.pagemap.proofs.take.Tie as tie
 

@@ -10,7 +10,7 @@ use Rattle.model.specs.Lists.{sumTo}
 use Rattle.model.specs.PageMap.{bit}
 use Rattle.model.proofs.Sums.{sumTo-le}
 use Rattle.model.proofs.PageMap.{bit-lt}
-use Rattle.pagemap.proofs.Word.{shl-one, ones-sum, ones-low, ones-full}
+use Rattle.model.proofs.Word.{shl-one, ones-sum, ones-low, ones-full}
 use Rattle.pagemap.proofs.zeros.Statement.{statement}
 use Rattle.pagemap.proofs.zeros.Tie as tie
 

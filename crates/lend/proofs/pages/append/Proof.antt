@@ -22,28 +22,28 @@ count-requires-2 c κs = search needs
 child-at-requires : tie.Need-child-at-requires Inv-loop μ-loop
 child-at-requires c κs = search needs
 
-add-insert : tie.Need-add-insert Inv-loop μ-loop
-add-insert c = search needs
+add-put-last : tie.Need-add-put-last Inv-loop μ-loop
+add-put-last c = search needs
 
-insert-requires : tie.Need-insert-requires Inv-loop μ-loop
-insert-requires c κs = search needs
+put-last-requires : tie.Need-put-last-requires Inv-loop μ-loop
+put-last-requires c κs = search needs
 
 begun : (c : tie.After-slice-known2 Inv-loop μ-loop) →
-    let insert = c .before .before in
-    let first = insert .before .before in
+    let put = c .before .before in
+    let first = put .before .before in
     let m = first .before .before in
     let n = m .before .before in
     let a = n .before .before .before .args in
-    Begun (a .l) (a .r) (n .count .result) (m .count2 .result) (entry (a .key) (a .value)) (a .pool .now) (insert .insert .last .0)
+    Begun (a .l) (a .r) (n .count .result) (m .count2 .result) (entry (a .key) (a .value)) (a .pool .now) (put .put-last .last .0)
 begun c =
-    let insert = c .before .before in
-    let first = insert .before .before in
+    let put = c .before .before in
+    let first = put .before .before in
     let m = first .before .before in
     let n = m .before .before in
     let s = n .before .before .before in
     let a = s .args in
     begins (a .pool .now) (a .l) (a .r) (n .count .result) (m .count2 .result) (entry (a .key) (a .value)) _ (s .pre .0 .2) (n .count .ensures) (m .count2 .ensures) (omega arith) (omega arith)
-    (first .child-at .ensures) (insert .insert .ensures)
+    (first .child-at .ensures) (put .put-last .ensures)
 
 loop-holds : tie.Need-loop-holds Inv-loop μ-loop
 loop-holds c = (omega arith, joining-none _ _ _ _ (begun c .many))
@@ -57,20 +57,20 @@ add-child-at c = search needs
 child-at-requires-2 : tie.Need-child-at-requires-2 Inv-loop μ-loop
 child-at-requires-2 c κs = search needs
 
-add-insert-2 : tie.Need-add-insert-2 Inv-loop μ-loop
-add-insert-2 c = search needs
+add-put-last-2 : tie.Need-add-put-last-2 Inv-loop μ-loop
+add-put-last-2 c = search needs
 
-add-insert-3 : tie.Need-add-insert-3 Inv-loop μ-loop
-add-insert-3 c = search needs
+add-put-last-3 : tie.Need-add-put-last-3 Inv-loop μ-loop
+add-put-last-3 c = search needs
 
-add-insert-4 : tie.Need-add-insert-4 Inv-loop μ-loop
-add-insert-4 c = search needs
+add-put-last-4 : tie.Need-add-put-last-4 Inv-loop μ-loop
+add-put-last-4 c = search needs
 
-add-insert-5 : tie.Need-add-insert-5 Inv-loop μ-loop
-add-insert-5 c = search needs
+add-put-last-5 : tie.Need-add-put-last-5 Inv-loop μ-loop
+add-put-last-5 c = search needs
 
-insert-requires-2 : tie.Need-insert-requires-2 Inv-loop μ-loop
-insert-requires-2 c κs = search needs
+put-last-requires-2 : tie.Need-put-last-requires-2 Inv-loop μ-loop
+put-last-requires-2 c κs = search needs
 
 add-j : tie.Need-add-j Inv-loop μ-loop
 add-j c = search needs
@@ -80,13 +80,13 @@ loop-less c = search needs
 
 loop-again : tie.Need-loop-again Inv-loop μ-loop
 loop-again c =
-    let insert = c .before .before in
-    let child = insert .before .before in
+    let put = c .before .before in
+    let child = put .before .before in
     let own = child .before .before in
     let test = own .before .before in
     let turn = test .before in
     let b = begun (turn .before) in
-    (search needs, joining-more _ _ _ _ (b .many) _ _ _ (b .apart) (omega (arith, b .rest, test .loop-test .taken)) (omega (arith, b .fits, test .loop-test .taken)) (own .entry-at .ensures) (child .child-at2 .ensures) (turn .loop .inv .1) (insert .insert2 .ensures))
+    (search needs, joining-more _ _ _ _ (b .many) _ _ _ (b .apart) (omega (arith, b .rest, test .loop-test .taken)) (omega (arith, b .fits, test .loop-test .taken)) (own .entry-at .ensures) (child .child-at2 .ensures) (turn .loop .inv .1) (put .put-last2 .ensures))
 
 same-length : tie.Need-same-length Inv-loop μ-loop
 same-length c = search needs
@@ -104,17 +104,17 @@ append-spec =
     count-requires
     count-requires-2
     child-at-requires
-    add-insert
-    insert-requires
+    add-put-last
+    put-last-requires
     loop-holds
     entry-at-requires
     add-child-at
     child-at-requires-2
-    add-insert-2
-    add-insert-3
-    add-insert-4
-    add-insert-5
-    insert-requires-2
+    add-put-last-2
+    add-put-last-3
+    add-put-last-4
+    add-put-last-5
+    put-last-requires-2
     add-j
     loop-less
     loop-again

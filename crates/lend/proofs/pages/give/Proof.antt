@@ -74,11 +74,11 @@ add-wider-child c = search needs
 wider-child-requires-3 : tie.Need-wider-child-requires-3 Inv-loop μ-loop
 wider-child-requires-3 c κs = let k = ready (c .before .before .before .before) in (k .0, k .2, omega arith)
 
-add-insert : tie.Need-add-insert Inv-loop μ-loop
-add-insert c = search needs
+add-put-last : tie.Need-add-put-last Inv-loop μ-loop
+add-put-last c = search needs
 
-insert-requires : tie.Need-insert-requires Inv-loop μ-loop
-insert-requires c κs = ready (c .before .before .before .before .before .before) .1
+put-last-requires : tie.Need-put-last-requires Inv-loop μ-loop
+put-last-requires c κs = ready (c .before .before .before .before .before .before) .1
 
 add-j : tie.Need-add-j Inv-loop μ-loop
 add-j c = search needs
@@ -88,13 +88,13 @@ loop-less c = search needs
 
 loop-again : tie.Need-loop-again Inv-loop μ-loop
 loop-again c =
-    let insert = c .before .before in
-    let child = insert .before .before in
+    let put = c .before .before in
+    let child = put .before .before in
     let own = child .before .before in
     let test = own .before .before in
     let turn = test .before in
     let g = given (turn .before) in
-    (omega arith, omega arith, giving-more _ _ _ _ _ _ (g .full) _ _ _ (g .apart) (turn .loop .inv .0) (test .loop-test .taken) (own .wider-entry2 .ensures) (child .wider-child3 .ensures) (turn .loop .inv .2) (insert .insert .ensures))
+    (omega arith, omega arith, giving-more _ _ _ _ _ _ (g .full) _ _ _ (g .apart) (turn .loop .inv .0) (test .loop-test .taken) (own .wider-entry2 .ensures) (child .wider-child3 .ensures) (turn .loop .inv .2) (put .put-last .ensures))
 
 same-length : tie.Need-same-length Inv-loop μ-loop
 same-length c = search needs
@@ -118,8 +118,8 @@ give-spec =
     wider-entry-requires-2
     add-wider-child
     wider-child-requires-3
-    add-insert
-    insert-requires
+    add-put-last
+    put-last-requires
     add-j
     loop-less
     loop-again

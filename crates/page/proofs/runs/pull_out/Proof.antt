@@ -1,35 +1,49 @@
--- `page::runs::pull_out` meets its contract. The invariant: leaving `i` out still gives what was to be made. Assumes nothing.
-use mathlib.Core.Path.{_≡_, refl, _∙_}
-use Prim.Native.Nat.{_<_, _-_}
+-- `page::runs::pull_out` meets its contract. The invariant: without the word at `max at i`, which is not wanted any more, there is what was to be made. Assumes nothing.
+use mathlib.Core.Path.{_≡_, refl, sym, ap, ap₂, _∙_}
+use mathlib.Core.List.{_++_}
+use Prim.Native.Nat.{ℕ, _<_, _-_, max}
 use native.Mathlib.Omega.{arith}
-use lib.ListN.{length, drop, length-set}
+use lib.Dec.{leb}
+use lib.ListN.{length, drop, length-set, take-append-drop}
 use lib.Seq.{drop-set-lt}
 use borrow.Author.Needs.{needs}
 use Rattle.model.specs.Lists.{del}
-use Rattle.page.proofs.Lists.{del-step, pulled}
+use Rattle.page.proofs.Lists.{down-turn, del-last, byte-most}
 use Rattle.page.proofs.runs.pull_out.Statement.{statement}
 use Rattle.page.proofs.runs.pull_out.Tie as tie
 
 abbrev Inv-loop : tie.InvT-loop
-Inv-loop s₀ at i₀ s i = (i < length s₀) × (length s ≡ length s₀) × (del i s ≡ del at s₀) × (drop (length s₀ - 1) s ≡ drop (length s₀ - 1) s₀)
+Inv-loop s₀ at i₀ s i = (i < length s₀) × (length s ≡ length s₀) × (del (max at i) s ≡ del at s₀) × (drop (length s₀ - 1) s ≡ drop (length s₀ - 1) s₀)
 
 abbrev μ-loop : tie.MeasureT-loop
 μ-loop s₀ at i₀ s i = length s₀ - i
 
 loop-holds : tie.Need-loop-holds Inv-loop μ-loop
-loop-holds c = (search needs, refl, refl, refl)
+loop-holds c =
+    let a = c .args in
+    let place : max (a .at) 0 ≡ a .at = omega arith in
+    (search needs, refl, ap (λ (m : ℕ). del m (a .s .now)) place, refl)
 
 add-loop : tie.Need-add-loop Inv-loop μ-loop
 add-loop c = search needs
 
+cast-s : tie.Need-cast-s Inv-loop μ-loop
+cast-s c = search needs
+
 add-s : tie.Need-add-s Inv-loop μ-loop
-add-s c = search needs
+add-s c =
+    let few = byte-most (leb (c .before .before .args .at) (c .before .loop .i)) in
+    search needs
 
 mul-s : tie.Need-mul-s Inv-loop μ-loop
-mul-s c = search needs
+mul-s c =
+    let few = byte-most (leb (c .before .before .args .at) (c .before .loop .i)) in
+    search needs
 
 slice-read-s : tie.Need-slice-read-s Inv-loop μ-loop
-slice-read-s c = search needs
+slice-read-s c =
+    let few = byte-most (leb (c .before .before .before .args .at) (c .before .before .loop .i)) in
+    search needs
 
 mul-s-2 : tie.Need-mul-s-2 Inv-loop μ-loop
 mul-s-2 c = search needs
@@ -46,8 +60,9 @@ loop-less c = search needs
 loop-again : tie.Need-loop-again Inv-loop μ-loop
 loop-again c =
     let l = c .before .before .loop in
-    let n = length (c .before .before .before .args .s .now) - 1 in
-    (search needs, simp length-set (omega arith), del-step (l .s) (l .i) 0 (search needs) ∙ l .inv .2, drop-set-lt n (l .s) (l .i) _ (search needs) ∙ l .inv .3)
+    let a = c .before .before .before .args in
+    let n = length (a .s .now) - 1 in
+    (search needs, simp length-set (omega arith), down-turn (l .s) (a .at) (l .i) 0 (search needs) ∙ l .inv .2, drop-set-lt n (l .s) (l .i) _ (search needs) ∙ l .inv .3)
 
 same-length : tie.Need-same-length Inv-loop μ-loop
 same-length c = search needs
@@ -56,7 +71,9 @@ returns : tie.Need-returns Inv-loop μ-loop
 returns c =
     let l = c .before .loop in
     let a = c .before .before .args in
-    pulled (l .s) (a .s .now) (l .i) (a .at) (l .inv .2) (l .inv .3) (search needs) (search needs) (search needs)
+    let n = length (a .s .now) - 1 in
+    let last : max (a .at) (l .i) ≡ n = omega arith in
+    sym (take-append-drop n (l .s)) ∙ ap₂ _++_ (sym (del-last (l .s) n (omega arith)) ∙ (rw last at (l .inv .2))) (l .inv .3)
 
 pub pull-out-spec : {M : Type 1} → statement M
 pull-out-spec =
@@ -66,6 +83,7 @@ pull-out-spec =
     μ-loop
     loop-holds
     add-loop
+    cast-s
     add-s
     mul-s
     slice-read-s

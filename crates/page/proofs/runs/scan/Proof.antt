@@ -1,35 +1,41 @@
--- `page::runs::scan` meets its contract. The invariant: the words passed and the place in the rest make the place in all. Assumes nothing.
+-- `page::runs::scan` meets its contract. The invariant: the mask has a bit for each word passed. Assumes nothing.
 use mathlib.Core.Path.{_≡_}
-use Prim.Native.Nat.{_≤_, _+_, _-_}
+use Prim.Native.Nat.{_-_, _^_, min}
 use native.Mathlib.Omega.{arith}
-use lib.ListN.{length, drop}
+use lib.Count.{trailingZeros, trailing-le}
+use lib.ListN.{length, getD, take}
 use borrow.Author.Needs.{needs}
-use Rattle.page.specs.Runs.{below}
-use Rattle.page.proofs.Lists.{below-here, below-past, below-end}
+use Rattle.page.specs.Runs.{leading, upTo}
+use Rattle.page.proofs.Leading.{Mask, mask-none, mask-on, mask-leading, stands-up-to, leading-take}
 use Rattle.page.proofs.runs.scan.Statement.{statement}
 use Rattle.page.proofs.runs.scan.Tie as tie
 
 abbrev Inv-loop : tie.InvT-loop
-Inv-loop s key i₀ i = (i ≤ length s) × (i + below key (drop i s) ≡ below key s)
+Inv-loop s n key past mask₀ i₀ mask i = Mask (upTo key past) s i mask
 
 abbrev μ-loop : tie.MeasureT-loop
-μ-loop s key i₀ i = length s - i
+μ-loop s n key past mask₀ i₀ mask i = length s - i
 
 loop-holds : tie.Need-loop-holds Inv-loop μ-loop
-loop-holds c = (search needs, search needs)
+loop-holds c = mask-none _ _
 
-mul-if1 : tie.Need-mul-if1 Inv-loop μ-loop
-mul-if1 c = search needs
+mul-stands : tie.Need-mul-stands Inv-loop μ-loop
+mul-stands c = search needs
 
-shared-slice-read-if1 : tie.Need-shared-slice-read-if1 Inv-loop μ-loop
-shared-slice-read-if1 c = search needs
+shared-slice-read-stands : tie.Need-shared-slice-read-stands Inv-loop μ-loop
+shared-slice-read-stands c = search needs
 
-returns : tie.Need-returns Inv-loop μ-loop
-returns c =
-    let s = c .before .before .before .before .args .s .now in
-    let key = c .before .before .before .before .args .key in
-    let i = c .before .before .before .loop .i in
-    omega (arith, below-here key s i (search needs) (search needs))
+mul-stands-2 : tie.Need-mul-stands-2 Inv-loop μ-loop
+mul-stands-2 c = search needs
+
+shared-slice-read-stands-2 : tie.Need-shared-slice-read-stands-2 Inv-loop μ-loop
+shared-slice-read-stands-2 c = search needs
+
+cast-mask : tie.Need-cast-mask Inv-loop μ-loop
+cast-mask c = search needs
+
+shl-mask : tie.Need-shl-mask Inv-loop μ-loop
+shl-mask c = search needs
 
 add-i : tie.Need-add-i Inv-loop μ-loop
 add-i c = search needs
@@ -39,17 +45,29 @@ loop-less c = search needs
 
 loop-again : tie.Need-loop-again Inv-loop μ-loop
 loop-again c =
-    let s = c .before .before .before .before .args .s .now in
-    let key = c .before .before .before .before .args .key in
-    let i = c .before .before .before .loop .i in
-    (search needs, omega (arith, below-past key s i (search needs) (search needs)))
+    let a = c .before .before .before .before .args in
+    let l = c .before .before .before .loop in
+    rw (stands-up-to (a .key) (getD (a .s .now) (l .i) 0) (a .past)) (mask-on (upTo (a .key) (a .past)) (a .s .now) (l .i) (l .mask) (search needs) (search needs) (l .inv))
+
+cast-slot : tie.Need-cast-slot Inv-loop μ-loop
+cast-slot c = omega (arith, trailing-le 64 (2 ^ 64 - 1 - c .before .loop .mask))
+
+-- the mask of all words, and the first n of them
+place : (c : tie.After-loop Inv-loop μ-loop) → let a = c .before .before .args in
+    (trailingZeros 64 (2 ^ 64 - 1 - c .before .loop .mask) ≡ leading (upTo (a .key) (a .past)) (a .s .now))
+    × (leading (upTo (a .key) (a .past)) (take (a .n) (a .s .now)) ≡ min (a .n) (leading (upTo (a .key) (a .past)) (a .s .now)))
+place c =
+    let a = c .before .before .args in
+    let l = c .before .loop in (
+      mask-leading (upTo (a .key) (a .past)) (a .s .now) (l .i) (l .mask) (search needs) (search needs) (l .inv),
+      leading-take (upTo (a .key) (a .past)) (a .n) (a .s .now),
+    )
+
+returns : tie.Need-returns Inv-loop μ-loop
+returns c = let is = place (c .before) in omega (arith, is .0, is .1)
 
 returns-2 : tie.Need-returns-2 Inv-loop μ-loop
-returns-2 c =
-    let s = c .before .before .args .s .now in
-    let key = c .before .before .args .key in
-    let i = c .before .loop .i in
-    omega (arith, below-end key s i (search needs))
+returns-2 c = let is = place (c .before) in omega (arith, is .0, is .1)
 
 pub scan-spec : {M : Type 1} → statement M
 scan-spec =
@@ -58,10 +76,15 @@ scan-spec =
     Inv-loop
     μ-loop
     loop-holds
-    mul-if1
-    shared-slice-read-if1
-    returns
+    mul-stands
+    shared-slice-read-stands
+    mul-stands-2
+    shared-slice-read-stands-2
+    cast-mask
+    shl-mask
     add-i
     loop-less
     loop-again
+    cast-slot
+    returns
     returns-2)

@@ -1,6 +1,6 @@
 -- `search::last_slot` meets its contract: each answer by the tests that led there. Assumes nothing.
 use borrow.Author.Needs.{needs}
-use Rattle.tree.proofs.Searching.{last-other, last-none, last-many, last-at}
+use Rattle.tree.proofs.Searching.{slot-other, last-none, last-many, last-at}
 use Rattle.tree.proofs.search.last_slot.Statement.{statement}
 use Rattle.tree.proofs.search.last_slot.Tie as tie
 
@@ -8,7 +8,7 @@ height-requires : tie.Need-height-requires
 height-requires c κs = search needs
 
 returns : tie.Need-returns
-returns c = last-other _ _ _ _ (c .before .height .ensures) (c .if1 .taken)
+returns c = slot-other _ _ _ _ _ (c .before .height .ensures) (c .if1 .taken)
 
 count-requires : tie.Need-count-requires
 count-requires c κs = search needs

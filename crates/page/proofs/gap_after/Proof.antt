@@ -1,0 +1,80 @@
+-- `page::gap_after` meets its contract: each answer by the tests that led there. Assumes nothing.
+use mathlib.Core.Bool.{true}
+use borrow.Author.Needs.{needs}
+use Rattle.page.specs.Runs.{upTo}
+use Rattle.page.proofs.Finding.{gap-none, gap-many, gap-walked, gap-scanned}
+use Rattle.page.proofs.gap_after.Statement.{statement}
+use Rattle.page.proofs.gap_after.Tie as tie
+
+shared-slice-read-n : tie.Need-shared-slice-read-n
+shared-slice-read-n c = search needs
+
+returns : tie.Need-returns
+returns c = gap-none _ _ _ (c .if1 .taken)
+
+returns-2 : tie.Need-returns-2
+returns-2 c = gap-many _ _ _ (c .if2 .taken)
+
+shared-slice-read-if3 : tie.Need-shared-slice-read-if3
+shared-slice-read-if3 c = search needs
+
+add-walk : tie.Need-add-walk
+add-walk c = search needs
+
+sub-walk : tie.Need-sub-walk
+sub-walk c = search needs
+
+part-walk-start : tie.Need-part-walk-start
+part-walk-start c = search needs
+
+part-walk-end : tie.Need-part-walk-end
+part-walk-end c = search needs
+
+walk-requires : tie.Need-walk-requires
+walk-requires c κs = search needs
+
+returns-3 : tie.Need-returns-3
+returns-3 c =
+    let a = c .before .before .before .before .before .before .before .before in
+    gap-walked (a .args .most) (a .args .page .now) (upTo (a .args .key) true) _ (a .pre .0) (search needs) (search needs) (c .walk .ensures)
+
+add-scan : tie.Need-add-scan
+add-scan c = search needs
+
+sub-scan : tie.Need-sub-scan
+sub-scan c = search needs
+
+part-scan-start : tie.Need-part-scan-start
+part-scan-start c = search needs
+
+part-scan-end : tie.Need-part-scan-end
+part-scan-end c = search needs
+
+scan-requires : tie.Need-scan-requires
+scan-requires c κs = search needs
+
+returns-4 : tie.Need-returns-4
+returns-4 c =
+    let a = c .before .before .before .before .before .before .before .before in
+    gap-scanned (a .args .most) (a .args .page .now) (upTo (a .args .key) true) _ (a .pre .0) (search needs) (search needs) (c .scan .ensures)
+
+pub gap-after-spec : {M : Type 1} → statement M
+gap-after-spec =
+    tie.close
+    (tie.spec
+    shared-slice-read-n
+    returns
+    returns-2
+    shared-slice-read-if3
+    add-walk
+    sub-walk
+    part-walk-start
+    part-walk-end
+    walk-requires
+    returns-3
+    add-scan
+    sub-scan
+    part-scan-start
+    part-scan-end
+    scan-requires
+    returns-4)
