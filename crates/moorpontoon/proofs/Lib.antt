@@ -1,0 +1,2 @@
+-- Laws of what a caller of an exported function is given.
+pub mod Exporting
