@@ -1,20 +1,25 @@
 // Scripts: the calls of a line, each a letter, a figure, a key of two figures, and a space before the next. A call prints its answer and, where a word of the pool has changed, a star.
 ghost use Prim.Native.Nat.{_≤_};
+use crate::pages::page;
+use crate::told::Told;
+use crate::told::answered;
+use crate::told::contained;
+use crate::told::counted;
+use crate::told::entry;
+use crate::told::got;
+use crate::told::inserted;
+use crate::told::listed;
+use crate::told::opened;
+use crate::told::print;
+use crate::told::removed;
+use crate::told::replaced;
+use crate::told::stepped;
+use crate::told::write;
+use crate::told::wrote;
 use cursor::Step;
-use cursor::Wrote;
-use cursor::opening::Opened;
-use libc::STDOUT_FILENO;
-use map::Contained;
-use map::Got;
-use map::Inserted;
-use map::Removed;
-use map::Replaced;
 use map::list::Listed;
-use map::pool::Answer;
 use map::pool::Checked;
-use map::pool::Counted;
 use map::refusal::MAP;
-use map::refusal::Refusal;
 use map::refusal::number;
 use model::LEVELS;
 use table::put;
@@ -22,129 +27,27 @@ use table::random;
 use table::say;
 use table::value_at;
 
-// ---- answers
-
-pub fn write(text: &[u8]) {
-    io::write_all(STDOUT_FILENO, text);
-}
-
-fn refused(why: Refusal) {
-    say(b" refused ", number(why));
-}
-
-fn entry(key: u64, value: u64) {
-    say(b" ", key);
-    say(b":", value);
-}
-
-fn answered(answer: Answer) {
-    match answer {
-        Answer::Done => write(b" done"),
-        Answer::Refused(why) => refused(why),
-    }
-}
-
-fn opened(answer: Opened) {
-    match answer {
-        Opened::Read(n) => say(b" read ", n as u64),
-        Opened::Refused(why) => refused(why),
-    }
-}
-
-fn stepped(answer: Step) {
-    match answer {
-        Step::Entry(key, value) => entry(key, value),
-        Step::End => write(b" end"),
-        Step::Refused(why) => refused(why),
-    }
-}
-
-fn wrote(answer: Wrote) {
-    match answer {
-        Wrote::Before(value) => say(b" was ", value),
-        Wrote::End => write(b" end"),
-        Wrote::Refused(why) => refused(why),
-    }
-}
-
-fn inserted(answer: Inserted) {
-    match answer {
-        Inserted::New => write(b" new"),
-        Inserted::Before(value) => say(b" was ", value),
-        Inserted::Refused(why) => refused(why),
-    }
-}
-
-fn replaced(answer: Replaced) {
-    match answer {
-        Replaced::Before(value) => say(b" was ", value),
-        Replaced::Absent => write(b" absent"),
-        Replaced::Refused(why) => refused(why),
-    }
-}
-
-fn removed(answer: Removed) {
-    match answer {
-        Removed::Value(value) => say(b" was ", value),
-        Removed::Absent => write(b" absent"),
-        Removed::Refused(why) => refused(why),
-    }
-}
-
-fn got(answer: Got) {
-    match answer {
-        Got::Value(value, _) => say(b" ", value),
-        Got::Absent(_) => write(b" absent"),
-        Got::Refused(why) => refused(why),
-    }
-}
-
-fn contained(answer: Contained) {
-    match answer {
-        Contained::Present(_) => write(b" yes"),
-        Contained::Absent(_) => write(b" no"),
-        Contained::Refused(why) => refused(why),
-    }
-}
-
-fn counted(answer: Counted) {
-    match answer {
-        Counted::Entries(n) => say(b" ", n),
-        Counted::Refused(why) => refused(why),
-    }
-}
-
-fn sound(answer: Checked) {
-    match answer {
-        Checked::Sound => write(b" sound"),
-        Checked::Unsound => write(b" unsound"),
-    }
-}
+// ---- lists, gaps, copies and checks, printed
 
 // How many entries a list wrote, and the first four words of its slices; 0 past an end.
-fn listed(answer: Listed, keys: &[u64], values: &[u64]) {
-    match answer {
-        Listed::Wrote(n) => say(b" wrote ", n as u64),
-        Listed::Refused(why) => refused(why),
-    }
+fn columns(answer: Listed, keys: &[u64], values: &[u64]) {
+    print(listed(answer));
     entry(value_at(keys, 0), value_at(values, 0));
     entry(value_at(keys, 1), value_at(values, 1));
     entry(value_at(keys, 2), value_at(values, 2));
     entry(value_at(keys, 3), value_at(values, 3));
 }
 
-// ---- lists, gaps and copies
-
 fn list(pool: &[u64]) {
     let mut keys = [0u64; 4];
     let mut values = [0u64; 4];
     let answer = map::list::entries(pool, 2, 0, 2, 0, &mut keys, &mut values);
-    listed(answer, &keys, &values);
+    columns(answer, &keys, &values);
 }
 
 fn play_into(pool: &mut [u64], keys: &mut [u64], values: &mut [u64]) {
     let answer = cursor::play::play(pool, keys, values);
-    listed(answer, keys, values);
+    columns(answer, keys, values);
 }
 
 // Playback into slices of two lengths, at most 4.
@@ -169,38 +72,54 @@ fn keys(pool: &[u64], lower: u64, from: u64, upper: u64, to: u64) -> u64 {
     }
 }
 
-// The gap's place: as many keys as there are up to the one that peek prev shows. And how many there are from the one on that peek next shows.
-fn gap(pool: &[u64]) {
+// The gap's place: as many keys as there are up to the one that peek prev shows.
+fn before_gap(pool: &[u64]) {
     match cursor::peek_prev(pool) {
         Step::Entry(key, _) => say(b" ", keys(pool, 2, 0, 0, key)),
         Step::End => say(b" ", 0),
-        Step::Refused(why) => refused(why),
+        Step::Refused(why) => print(Told::Refused(why)),
     }
+}
+
+// And how many there are from the one on that peek next shows.
+fn after_gap(pool: &[u64]) {
     match cursor::peek_next(pool) {
         Step::Entry(key, _) => say(b" and ", keys(pool, 0, key, 2, 0)),
         Step::End => say(b" and ", 0),
-        Step::Refused(why) => refused(why),
+        Step::Refused(why) => print(Told::Refused(why)),
+    }
+}
+
+fn gap(pool: &[u64]) {
+    before_gap(pool);
+    after_gap(pool);
+}
+
+pub fn sound(pool: &[u64]) {
+    match map::pool::check(pool) {
+        Checked::Sound => write(b" sound"),
+        Checked::Unsound => write(b" unsound"),
     }
 }
 
 // A copy of a pool of one page, its list, and its next.
 fn copy_out(pool: &[u64]) {
     let mut other = [0u64; 128];
-    answered(map::pool::copy(pool, &mut other));
+    print(answered(map::pool::copy(pool, &mut other)));
     list(&other);
-    sound(map::pool::check(&other));
-    stepped(cursor::next(&mut other));
+    sound(&other);
+    print(stepped(cursor::next(&mut other)));
 }
 
-fn copy_in(pool: &mut [u64]) {
+fn copy_in(pool: &mut [u64]) -> Told {
     let mut other = [0u64; 128];
     map::pool::make(&mut other, MAP);
-    answered(map::pool::copy(&other, pool));
+    answered(map::pool::copy(&other, pool))
 }
 
 // ---- scripts
 
-fn cursor_call(pool: &mut [u64], letter: u8, figure: u64, key: u64) {
+fn step_call(pool: &mut [u64], letter: u8, figure: u64, key: u64) -> Told {
     match letter {
         b'l' => opened(cursor::opening::lower(pool, figure, key)),
         b'u' => opened(cursor::opening::upper(pool, figure, key)),
@@ -208,39 +127,67 @@ fn cursor_call(pool: &mut [u64], letter: u8, figure: u64, key: u64) {
         b'p' => stepped(cursor::prev(pool)),
         b'N' => stepped(cursor::peek_next(pool)),
         b'P' => stepped(cursor::peek_prev(pool)),
+        _ => edit_call(pool, letter, figure, key),
+    }
+}
+
+fn edit_call(pool: &mut [u64], letter: u8, figure: u64, key: u64) -> Told {
+    match letter {
         b'w' => wrote(cursor::write_next(pool, key)),
         b'W' => wrote(cursor::write_prev(pool, key)),
         b'i' => answered(cursor::edit::insert_after(pool, key, key)),
         b'r' => stepped(cursor::edit::remove_next(pool)),
         b'c' => answered(cursor::close(pool)),
-        b'q' => play(pool, figure as usize, key as usize),
-        b'g' => gap(pool),
         _ => map_call(pool, letter, figure, key),
     }
 }
 
-fn map_call(pool: &mut [u64], letter: u8, figure: u64, key: u64) {
+fn map_call(pool: &mut [u64], letter: u8, figure: u64, key: u64) -> Told {
     match letter {
-        b'm' => answered(map::pool::make(pool, figure)),
         b'I' => inserted(map::insert(pool, key, key)),
         b'X' => replaced(map::replace(pool, key, key)),
         b'R' => removed(map::remove(pool, key)),
-        b'C' => answered(map::pool::clear(pool)),
-        b'Y' => copy_in(pool),
-        b'h' => put(pool, figure as usize, key),
-        _ => reading(pool, letter, key),
+        _ => pool_call(pool, letter, figure, key),
     }
 }
 
-fn reading(pool: &[u64], letter: u8, key: u64) {
+fn pool_call(pool: &mut [u64], letter: u8, figure: u64, key: u64) -> Told {
+    match letter {
+        b'm' => answered(map::pool::make(pool, figure)),
+        b'C' => answered(map::pool::clear(pool)),
+        b'Y' => copy_in(pool),
+        _ => read_call(pool, letter, figure, key),
+    }
+}
+
+fn read_call(pool: &mut [u64], letter: u8, figure: u64, key: u64) -> Told {
     match letter {
         b'G' => got(map::get(pool, key)),
         b'K' => contained(map::contains(pool, key)),
         b'O' => counted(map::pool::count(pool)),
+        b'v' => Told::Is(value_at(pool, LEVELS)),
+        b'h' => {
+            put(pool, figure as usize, key);
+            Told::Nothing
+        }
+        b'q' => {
+            play(pool, figure as usize, key as usize);
+            Told::Nothing
+        }
+        _ => {
+            show(pool, letter, figure);
+            Told::Nothing
+        }
+    }
+}
+
+fn show(pool: &[u64], letter: u8, figure: u64) {
+    match letter {
+        b'g' => gap(pool),
         b'B' => list(pool),
         b'y' => copy_out(pool),
-        b'k' => sound(map::pool::check(pool)),
-        b'v' => say(b" ", value_at(pool, LEVELS)),
+        b'k' => sound(pool),
+        b'D' => page(pool, figure as usize),
         _ => write(b" no call"),
     }
 }
@@ -296,12 +243,12 @@ fn turn(pool: &mut [u64], script: &[u8], i: usize) {
         return;
     }
     let was = digest(pool);
-    cursor_call(
+    print(step_call(
         pool,
         script[i],
         figure(script, std::num::wrapping_add_usize(i, 1)),
         key(script, std::num::wrapping_add_usize(i, 2)),
-    );
+    ));
     if digest(pool) != was {
         write(b" *");
     }

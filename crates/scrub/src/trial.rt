@@ -1,6 +1,6 @@
 // A trial: so many cursor calls at random on a map, each held against the table, as are the peeks after each. The gap is a place of the table: the entries at places below it come before it.
 ghost use Prim.Native.Nat.{_≤_};
-use crate::calls::write;
+use crate::told::write;
 use cursor::Step;
 use cursor::Wrote;
 use cursor::opening::Opened;
@@ -305,21 +305,28 @@ fn look(pool: &[u64], table: &[u64], t: Trial) -> Trial {
 
 // ---- a trial
 
-// One call at random: `filed` of 16 are insertions, then removals, and the last seven the writes and the moves.
-fn one(pool: &mut [u64], table: &mut [u64], seed: u64, filed: u64, t: Trial) -> Trial {
-    let what = random::sixteenth(seed);
-    if what < filed {
-        return insert(pool, table, seed, t);
-    }
-    match what {
-        0..=8 => remove(pool, table, t),
-        9 => write_next(pool, table, random::value(seed), t),
+// One of the writes and the moves.
+fn other(pool: &mut [u64], table: &mut [u64], seed: u64, t: Trial) -> Trial {
+    match random::sixteenth(seed) {
+        0..=9 => write_next(pool, table, random::value(seed), t),
         10 => write_prev(pool, table, random::value(seed), t),
         11 => next(pool, table, t),
         12 => prev(pool, table, t),
         13 | 14 => reopen(pool, table, seed, t),
         15.. => play(pool, table, seed, t),
     }
+}
+
+// One call at random: `filed` of 16 are insertions, then removals, and the last seven the others.
+fn one(pool: &mut [u64], table: &mut [u64], seed: u64, filed: u64, t: Trial) -> Trial {
+    let what = random::sixteenth(seed);
+    if what < filed {
+        return insert(pool, table, seed, t);
+    }
+    if what < 9 {
+        return remove(pool, table, t);
+    }
+    other(pool, table, seed, t)
 }
 
 // The peeks after a call and, after every 256th, the pool and its list.

@@ -1,9 +1,9 @@
--- `changed` stays inside the words and ends. Assumes nothing.
+-- `corners::changed` stays inside the words and ends. Assumes nothing.
 use Prim.Native.Nat.{_-_, _≤_}
 use lib.ListN.{length}
 use borrow.Author.Needs.{needs}
-use Rattle.corners.proofs.changed.Statement.{statement}
-use Rattle.corners.proofs.changed.Tie as tie
+use Rattle.scrub.proofs.corners.changed.Statement.{statement}
+use Rattle.scrub.proofs.corners.changed.Tie as tie
 
 abbrev Inv-loop : tie.InvT-loop
 Inv-loop before pool n₀ i₀ n i = i ≤ length pool
