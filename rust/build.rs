@@ -22,7 +22,7 @@ fn main() {
     println!("cargo:rustc-link-lib=static=moorpontoon");
 }
 
-/// Proves the library at the repository's top and gives the archive's path. `rt` proves nothing again that has not changed.
+/// Proves the library at the repository's top and gives the archive's path. The crates below it are proved again only where they have changed.
 fn prove() -> PathBuf {
     let top = Path::new(".."); // cargo runs this in the crate's folder
     let target = |part: &str| env::var(format!("CARGO_CFG_TARGET_{part}")).unwrap_or_default();
