@@ -12,7 +12,7 @@ use lib.ListN.{length, getD}
 use denote.Enum.Declared.{tagOf}
 use Rattle.model.specs.Head.{afterWord, keyWord, headed}
 use Rattle.model.specs.Tree.{entry, noEntry, held}
-use Rattle.model.specs.Page.{pageOf, entryIn}
+use Rattle.model.specs.Page.{entryIn}
 use Rattle.model.specs.Pool.{heldBy, poolOf}
 use Rattle.model.specs.Sound.{Sound}
 use Rattle.model.specs.Refusal.{refusal}
@@ -20,7 +20,7 @@ use Rattle.model.specs.Call.{refused, answered, Meets}
 use Rattle.model.specs.MapCalls.{file}
 use Rattle.model.specs.CursorCalls.{cursorTests, prevOf, cursorPrev, cursorPeekPrev, cursorWritePrev}
 use Rattle.model.specs.Source.{view}
-use Rattle.lend.specs.Pages.{most}
+use Rattle.lend.specs.Pages.{most, pageIn}
 use Rattle.tree.specs.declared.search.Got.{Got}
 use Rattle.tree.specs.declared.search.Got.the-variants as got
 use Rattle.tree.specs.declared.steps.Spot.{Spot}
@@ -118,7 +118,7 @@ module _ {w : List ℕ} (pass : 0 ≡ refusal (cursorTests w)) where
     peek-prev-lost gets others = meets-unsound (λ w p. (refl, refl)) (keeps-reads cursorTests prevOf) pass (refl, λ s. other-tag (got-tag gets s) others)
 
     pub prev-back : {ps ss ps′ ss′ v : List ℕ} {r : Sought} {p i key x : ℕ} {behind : Spot}
-        → Seeks w (keyWord w) ps ss ps′ ss′ r → r ≡ sought.Here p i → entry key x ≡ entryIn most (pageOf w p) i → SpotBefore w ps′ ss′ behind → v ≡ restWords behind w
+        → Seeks w (keyWord w) ps ss ps′ ss′ r → r ≡ sought.Here p i → entry key x ≡ entryIn most (pageIn w p) i → SpotBefore w ps′ ss′ behind → v ≡ restWords behind w
         → Meets cursorPrev w v (answered (some (entry (keyWord w) x)))
     unfolding held
     prev-back {ps′ = ps′} {ss′ = ss′} {p = p} {i = i} {key = key} {x = x} {behind = behind} seeks e read before rested =

@@ -10,7 +10,7 @@ use Prim.Native.Nat.{ℕ}
 use native.Mathlib.Omega.{arith}
 use lib.ListN.{length, length-set}
 use Rattle.model.specs.Tree.{entry}
-use Rattle.model.specs.Page.{pageOf, entryIn}
+use Rattle.model.specs.Page.{entryIn}
 use Rattle.model.specs.Entries.{shut, keyFits}
 use Rattle.model.specs.Pool.{heldBy, poolOf, gapBy}
 use Rattle.model.specs.Sound.{Sound}
@@ -20,7 +20,7 @@ use Rattle.model.specs.MapCalls.{crowded}
 use Rattle.model.specs.CursorCalls.{missing, cursorTests, cursorInsertAfter, cursorRemoveNext, cursorClose}
 use Rattle.page.specs.declared.Change.{Change}
 use Rattle.page.specs.declared.Change.the-variants as change
-use Rattle.lend.specs.Pages.{most}
+use Rattle.lend.specs.Pages.{most, pageIn}
 use Rattle.tree.specs.declared.insert.Inserted.{Inserted}
 use Rattle.tree.specs.declared.insert.Inserted.the-variants as inserted
 use Rattle.tree.specs.Insert.{Inserts, insertedBy}
@@ -83,7 +83,7 @@ module _ {w ps ss ps′ ss′ : List ℕ} {r : Ahead} (pass : 0 ≡ refusal (cur
     next : Sound w → Next w p i
     next s = ahead-entry (seeks .finds) s e
 
-    pub take-done : {key value : ℕ} → entry key value ≡ entryIn most (pageOf w p) i → x ≡ change.Done → Meets cursorRemoveNext w w′ (answered (some (entry key value)))
+    pub take-done : {key value : ℕ} → entry key value ≡ entryIn most (pageIn w p) i → x ≡ change.Done → Meets cursorRemoveNext w w′ (answered (some (entry key value)))
     take-done read done =
         meets-answered (λ w p. (refl, refl)) keeps-remove-next pass (removes .long)
         (λ s.

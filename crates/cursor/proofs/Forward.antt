@@ -6,14 +6,14 @@ use mathlib.Core.List.{List}
 use Prim.Native.Nat.{ℕ, suc}
 use lib.ListN.{length-set, getD}
 use Rattle.model.specs.Tree.{Entry, entry, noEntry}
-use Rattle.model.specs.Page.{pageOf, entryIn}
+use Rattle.model.specs.Page.{entryIn}
 use Rattle.model.specs.Entries.{gap}
 use Rattle.model.specs.Pool.{heldBy, poolOf, gapBy}
 use Rattle.model.specs.Sound.{Sound}
 use Rattle.model.specs.Refusal.{refusal}
 use Rattle.model.specs.Call.{answered, Meets}
 use Rattle.model.specs.CursorCalls.{cursorTests, nextOf, missing, cursorNext, cursorPeekNext, cursorWriteNext}
-use Rattle.lend.specs.Pages.{most}
+use Rattle.lend.specs.Pages.{most, pageIn}
 use Rattle.tree.specs.Write.{Writes}
 use Rattle.cursor.specs.declared.ahead.Ahead.{Ahead}
 use Rattle.cursor.specs.declared.ahead.Ahead.the-variants as ahead
@@ -33,7 +33,7 @@ next-held {w} n = next-some (heldBy (poolOf w)) (gapBy (poolOf w)) noEntry (n .t
 module _ {w : List ℕ} {r : Ahead} (pass : 0 ≡ refusal (cursorTests w)) (finds : FindsAhead w r) where
   -- ---- next
 
-  pub next-over : {u : List ℕ} {p s key v : ℕ} → r ≡ ahead.At p s → entry key v ≡ entryIn most (pageOf w p) s → u ≡ gapWords 1 1 key w
+  pub next-over : {u : List ℕ} {p s key v : ℕ} → r ≡ ahead.At p s → entry key v ≡ entryIn most (pageIn w p) s → u ≡ gapWords 1 1 key w
       → Meets cursorNext w u (answered (some (entry key v)))
   next-over {key = key} e read laid =
       meets-answered (λ w p. (refl, refl)) keeps-next pass (rw laid (simp length-set))
@@ -65,7 +65,7 @@ module _ {w : List ℕ} {r : Ahead} (pass : 0 ≡ refusal (cursorTests w)) (find
   peek-answered : {a : Option Entry} → (Sound w → a ≡ nextOf (poolOf w)) → Meets cursorPeekNext w w (answered a)
   peek-answered exact = meets-read cursorTests nextOf (λ w p. (refl, refl)) pass exact
 
-  pub peek-over : {p s key v : ℕ} → r ≡ ahead.At p s → entry key v ≡ entryIn most (pageOf w p) s → Meets cursorPeekNext w w (answered (some (entry key v)))
+  pub peek-over : {p s key v : ℕ} → r ≡ ahead.At p s → entry key v ≡ entryIn most (pageIn w p) s → Meets cursorPeekNext w w (answered (some (entry key v)))
   peek-over e read = peek-answered (λ sound. ap some read ∙ sym (ahead-entry finds sound e .next))
 
   pub peek-end : r ≡ ahead.End → Meets cursorPeekNext w w (answered none)

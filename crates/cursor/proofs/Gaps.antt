@@ -9,10 +9,10 @@ use native.Mathlib.Omega.{arith}
 use lib.Dec.{eqb}
 use lib.ListN.{length, getD, set, length-set}
 use borrow.Author.Tests.{eq-eqb, ne-eqb}
-use Rattle.model.specs.Layout.{least, word}
-use Rattle.model.specs.Head.{openWord, afterWord, keyWord, kindWord, headed}
+use Rattle.model.specs.Layout.{word}
+use Rattle.model.specs.Head.{geometryOf, openWord, afterWord, keyWord, kindWord, headed}
 use Rattle.model.specs.Tree.{Entry, noEntry, held, Formed}
-use Rattle.model.specs.Page.{pageOf, entryIn}
+use Rattle.model.specs.Page.{entryIn}
 use Rattle.model.specs.Entries.{Cursor, gap, gapOf, gapBefore}
 use Rattle.model.specs.Pool.{Pool, heldBy, poolOf, cursorOf, gapBy, withCursor}
 use Rattle.model.specs.Sound.{Sound}
@@ -20,7 +20,7 @@ use Rattle.model.specs.Written.{openIn, afterIn, keyIn, Written}
 use Rattle.model.specs.Refusal.{refusal}
 use Rattle.model.specs.CursorCalls.{cursorTests}
 use Rattle.model.specs.Source.{member}
-use Rattle.lend.specs.Pages.{most}
+use Rattle.lend.specs.Pages.{least, most, pageIn}
 use Rattle.tree.specs.declared.steps.Spot.{Spot}
 use Rattle.tree.specs.declared.steps.Spot.the-variants as spot
 use Rattle.tree.specs.Search.{aimed}
@@ -31,10 +31,12 @@ use Rattle.model.proofs.Head.{head-facts}
 use Rattle.model.proofs.Entries.{has-key, gap-after-has}
 use Rattle.model.proofs.Entries as entries
 use Rattle.model.proofs.Standing.{standing-frame}
+use Rattle.model.proofs.Lawful.{geometry-same}
 use Rattle.model.proofs.Right.{sound-right}
 use Rattle.model.proofs.Keeps.{of-kind}
 use Rattle.model.proofs.Written.{sound-written}
 use Rattle.tree.proofs.Heads.{HeadOnly, head-map, head-page, head-then, head-stored, stored-word, other-word}
+use Rattle.tree.proofs.Leaving.{written-today, written-formed}
 use Rattle.tree.proofs.Spots.{spot-some}
 use Rattle.tree.proofs.Writing.{spot-entry}
 
@@ -124,13 +126,15 @@ rest-long (spot.At p i) w = gap-long 1 1 _ w
 rest-long spot.End w = gap-long 1 0 0 w
 
 pub gap-written : (w : List ℕ) (P : Pool) (c : Cursor) → Written w P → Written (gapWords (openIn c) (afterIn c) (keyIn (heldBy P) c) w) (withCursor P c)
+unfolding geometryOf
 gap-written w P c a =
     let v : List ℕ = gapWords (openIn c) (afterIn c) (keyIn (heldBy P) c) w in
     let only : HeadOnly w v = laid-head w (openIn c) (afterIn c) (keyIn (heldBy P) c) in
     let same : (i : ℕ) → i ≢ 5 → i ≢ 6 → i ≢ 7 → word v i ≡ word w i = laid-other w (openIn c) (afterIn c) (keyIn (heldBy P) c) in
-    let long = a .long in
+    let long = rw (written-today a) at (a .long) in
     let new = laid-words w (openIn c) (afterIn c) (keyIn (heldBy P) c) (omega arith) in
     record {
+      geometry = geometry-same v w (same 0 (omega arith) (omega arith) (omega arith)) (same 9 (omega arith) (omega arith) (omega arith)) ∙ a .geometry;
       long = only .long ∙ a .long;
       head =
           let w₀ : word v 0 ≡ word w 0 = same 0 (omega arith) (omega arith) (omega arith) in
@@ -142,7 +146,7 @@ gap-written w P c a =
           cc (a .head, new .0, new .1, new .2);
       spare = λ i b h. same i (omega arith) (omega arith) (omega arith) ∙ a .spare i b h;
       bits = λ q. rw (head-map only) (a .bits q);
-      stands = standing-frame least (pageOf w) (pageOf v) (P .whole .levels) (P .whole .tree) (λ q _. sym (head-page only q)) (a .stands);
+      stands = standing-frame least (pageIn w) (pageIn v) (P .whole .levels) (P .whole .tree) (λ q _. sym (head-page only q)) (a .stands);
     }
 
 -- behind the spot of the entry before gap g
@@ -153,8 +157,8 @@ rest-written w zero (spot.At p i) s b e = never (cc)
 rest-written w zero spot.End s b e = gap-written w (poolOf w) (gap 0) (sound-written w s)
 rest-written w (suc g) (spot.At p i) s b e =
     let P = poolOf w in
-    let read : entryIn most (pageOf w p) i ≡ getD (heldBy P) g noEntry = spot-entry w P (sound-right w s) (sound-written w s) g p i b (sym e) in
+    let read : entryIn most (pageIn w p) i ≡ getD (heldBy P) g noEntry = spot-entry w P (sound-right w s) (sound-written w s) g p i b (sym e) in
     subst (λ (x : Entry). Written (gapWords 1 1 (x .key) w) (withCursor P (gap (suc g)))) (sym read) (gap-written w P (gap (suc g)) (sound-written w s))
 rest-written w (suc g) spot.End s b e =
-    let some = spot-some least 1 (poolOf w .whole .levels) (poolOf w .whole .tree) g (sound-right w s .formed) b (spot.At 0 0) in
+    let some = spot-some least 1 (poolOf w .whole .levels) (poolOf w .whole .tree) g (written-formed (sound-written w s) (sound-right w s)) b (spot.At 0 0) in
     never (cc (rw (← e) at some))

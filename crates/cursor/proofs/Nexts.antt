@@ -12,12 +12,12 @@ use borrow.Author.Tests.{eq-eqb, ne-eqb}
 use Rattle.model.specs.Lists.{every}
 use Rattle.model.specs.Head.{openWord, afterWord}
 use Rattle.model.specs.Tree.{noEntry, held}
-use Rattle.model.specs.Page.{pageOf, entryIn}
+use Rattle.model.specs.Page.{entryIn}
 use Rattle.model.specs.Entries.{above, under, keyFits}
 use Rattle.model.specs.Pool.{heldBy, poolOf, gapBy}
 use Rattle.model.specs.Sound.{Sound}
 use Rattle.model.specs.CursorCalls.{nextOf, prevOf}
-use Rattle.lend.specs.Pages.{most}
+use Rattle.lend.specs.Pages.{most, pageIn}
 use Rattle.tree.specs.declared.search.Aim.{Aim}
 use Rattle.tree.specs.declared.steps.Spot.{Spot}
 use Rattle.tree.specs.declared.steps.Spot.the-variants as spot
@@ -56,8 +56,8 @@ ahead-some spot.End e = never (cc)
 pub record Next (w : List ℕ) (p s : ℕ) : Type 0 where
   pub there : gapBy (poolOf w) < length (heldBy (poolOf w))
   pub spot : spotOf (poolOf w .whole .levels) (poolOf w .whole .tree) (gapBy (poolOf w)) ≡ spot.At p s
-  pub entry : entryIn most (pageOf w p) s ≡ getD (heldBy (poolOf w)) (gapBy (poolOf w)) noEntry
-  pub next : nextOf (poolOf w) ≡ some (entryIn most (pageOf w p) s)
+  pub entry : entryIn most (pageIn w p) s ≡ getD (heldBy (poolOf w)) (gapBy (poolOf w)) noEntry
+  pub next : nextOf (poolOf w) ≡ some (entryIn most (pageIn w p) s)
 
 module _ (w : List ℕ) (sound : Sound w) where
   abbrev right : Right (poolOf w)

@@ -9,10 +9,10 @@ use lib.Dec.{eqb, ltb}
 use lib.ListN.{length}
 use Rattle.model.specs.Lists.{every}
 use Rattle.model.specs.Head.{afterWord, keyWord}
-use Rattle.model.specs.Page.{pageOf, entryIn}
+use Rattle.model.specs.Page.{entryIn}
 use Rattle.model.specs.Pool.{poolOf, gapBy}
 use Rattle.model.specs.Sound.{Sound}
-use Rattle.lend.specs.Pages.{most, Inside}
+use Rattle.lend.specs.Pages.{most, Inside, pageIn}
 use Rattle.tree.specs.declared.steps.Spot.{Spot}
 use Rattle.tree.specs.declared.steps.Spot.the-variants as spot
 use Rattle.tree.specs.Sits.{PathIn, PathOf}
@@ -53,7 +53,7 @@ aboveNamed w k = cond (eqb (afterWord w) 0) true (ltb (keyWord w) k)
 
 -- under the key of the entry after it
 abbrev pub underAhead : List ℕ → Ahead → ℕ → Bool
-underAhead w (ahead.At p s) k = ltb k (entryIn most (pageOf w p) s .key)
+underAhead w (ahead.At p s) k = ltb k (entryIn most (pageIn w p) s .key)
 underAhead w ahead.End k = true
 underAhead w ahead.Unsound k = false
 

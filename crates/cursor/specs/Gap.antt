@@ -6,8 +6,8 @@ use Prim.Native.Nat.{ℕ}
 use lib.Dec.{eqb}
 use lib.ListN.{set}
 use Rattle.model.specs.Head.{afterWord, keyWord}
-use Rattle.model.specs.Page.{pageOf, entryIn}
-use Rattle.lend.specs.Pages.{most}
+use Rattle.model.specs.Page.{entryIn}
+use Rattle.lend.specs.Pages.{most, pageIn}
 use Rattle.tree.specs.declared.search.Aim.{Aim}
 use Rattle.tree.specs.declared.search.Aim.the-variants.{After, Start}
 use Rattle.tree.specs.declared.steps.Spot.{Spot}
@@ -23,5 +23,5 @@ gapWords opened after key w = set (set (set w 5 opened) 6 after) 7 key
 
 -- of an open cursor, just behind the entry at a spot, or at the start
 abbrev pub restWords : Spot → List ℕ → List ℕ
-restWords (spot.At p s) w = gapWords 1 1 (entryIn most (pageOf w p) s .key) w
+restWords (spot.At p s) w = gapWords 1 1 (entryIn most (pageIn w p) s .key) w
 restWords spot.End w = gapWords 1 0 0 w

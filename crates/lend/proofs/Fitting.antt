@@ -9,14 +9,14 @@ use native.Mathlib.Omega.{arith}
 use lib.Bits.{bitOr, or-zero-l, or-add-and, and-le-r}
 use lib.Dec.{eqb}
 use lib.ListN.{length}
-use borrow.Author.Tests.{leb-true, eqb-true, ne-eqb}
+use borrow.Author.Tests.{ne-eqb}
 use Rattle.model.specs.Lists.{tab, every}
-use Rattle.model.specs.Layout.{headWords, mostPages, firstWord, pagesIn, lengthTests, allowed, word, mostLevels}
-use Rattle.model.specs.Head.{spareWords, numberTests, fits, headed, countWord, rootWord, levelsWord}
+use Rattle.model.specs.Layout.{headWords, mostLevels, firstWord, pagesIn, allowed, word, today}
+use Rattle.model.specs.Head.{geometryOf, spareWords, numberTests, fits, headed, countWord, rootWord, levelsWord}
 use Rattle.lend.specs.Pages.{Inside}
 use Rattle.lend.specs.Touches.{Sized}
 use Rattle.model.proofs.Cases.{either, contrary, either-eq}
-use Rattle.model.proofs.Lists.{every-true, tab-ext, every-append, every-then, every-one}
+use Rattle.model.proofs.Lists.{tab-ext, every-append, every-then, every-one}
 use Rattle.model.proofs.Head.{head-facts}
 use Rattle.lend.proofs.Lent.{page-inside}
 
@@ -61,45 +61,45 @@ module _ (w : List ℕ) where
 
 -- ---- the head as it is tested
 
-pub allowed-facts : (n : ℕ) → allowed n ≡ true → (1 ≤ pagesIn n) × (pagesIn n ≤ mostPages) × (n ≡ firstWord (pagesIn n))
-unfolding allowed
-allowed-facts n e = let t = every-true (lengthTests n) e in (leb-true _ _ (t .0), leb-true _ _ (t .1 .0), eqb-true _ _ (t .1 .1 .0))
-
 module _ (w : List ℕ) where
   -- the length is not allowed
-  pub headed-no : allowed (length w) ≡ false → headed w ≡ false
-  unfolding headed
+  pub headed-no : allowed today (length w) ≡ false → headed w ≡ false
+  unfolding headed geometryOf
   headed-no no-length = rw no-length
 
-  pub headed-allowed : headed w ≡ true → allowed (length w) ≡ true
-  headed-allowed e = either (allowed (length w)) (λ y. y) (λ z. contrary e (headed-no z))
+  pub headed-allowed : headed w ≡ true → allowed today (length w) ≡ true
+  headed-allowed e = either (allowed today (length w)) (λ y. y) (λ z. contrary e (headed-no z))
 
-  module _ (long : allowed (length w) ≡ true) where
+  module _ (long : allowed today (length w) ≡ true) where
     -- a number does not fit
-    pub headed-not : every (numberTests (pagesIn (length w)) w) ≡ false → headed w ≡ false
-    unfolding headed fits
-    headed-not fails = rw long (every-append (numberTests (pagesIn (length w)) w) (map (λ x. eqb x 0) (spareWords w)) ∙ rw fails)
+    pub headed-not : every (numberTests today (pagesIn today (length w)) w) ≡ false → headed w ≡ false
+    unfolding headed fits geometryOf
+    headed-not fails = rw long (every-append (numberTests today (pagesIn today (length w)) w) (map (λ x. eqb x 0) (spareWords w)) ∙ rw fails)
 
     -- the spare words decide
-    pub headed-is : every (numberTests (pagesIn (length w)) w) ≡ true → headed w ≡ every (map (λ x. eqb x 0) (spareWords w))
-    unfolding headed fits
-    headed-is holds = rw long (every-then (numberTests (pagesIn (length w)) w) (map (λ x. eqb x 0) (spareWords w)) holds)
+    pub headed-is : every (numberTests today (pagesIn today (length w)) w) ≡ true → headed w ≡ every (map (λ x. eqb x 0) (spareWords w))
+    unfolding headed fits geometryOf
+    headed-is holds = rw long (every-then (numberTests today (pagesIn today (length w)) w) (map (λ x. eqb x 0) (spareWords w)) holds)
 
 -- ---- a head that fits
 
 module _ (w : List ℕ) (e : headed w ≡ true) where
   -- there is room for the map, and for a page
   pub headed-sized : Sized w
+  unfolding geometryOf
   headed-sized = let f = head-facts w e in omega (arith, f .long, f .most)
 
-  pub head-long : firstWord 1 ≤ length w
+  pub head-long : firstWord today 1 ≤ length w
+  unfolding geometryOf
   head-long = let f = head-facts w e in omega (arith, f .long, f .some)
 
-  pub head-levels : levelsWord w ≤ mostLevels
+  pub head-levels : levelsWord w ≤ mostLevels today
+  unfolding geometryOf
   head-levels = head-facts w e .levels
 
   -- where there are levels there is a root, inside the pool
   pub head-root : 0 < levelsWord w → (0 < rootWord w) × Inside (rootWord w - 1) w
+  unfolding geometryOf
   head-root l =
       let f = head-facts w e in
       let some : 0 < rootWord w = either-eq (countWord w) 0 (λ z. absurd (omega (arith, f .rooted .0 z .1))) (λ n. f .rooted .1 (omega arith) .0) in

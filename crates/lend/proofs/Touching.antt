@@ -8,17 +8,18 @@ use native.Mathlib.Omega.{arith}
 use lib.ListN.{length, take, drop-of-length-le, drop, getD}
 use lib.Seq.{take-take, getD-take}
 use Rattle.model.specs.Lists.{All}
-use Rattle.model.specs.Layout.{headWords, mapWords, pageWords, firstWord, word, pagesIn}
-use Rattle.model.specs.PageMap.{mapOf}
-use Rattle.model.specs.Page.{pageOf}
+use Rattle.model.specs.Layout.{headWords, pageWords, mapWords, firstWord, word, pagesIn, today}
+use Rattle.model.specs.PageMap.{mapAt}
+use Rattle.model.specs.Page.{pageAt}
 use Rattle.page.specs.Runs.{part, put, Changed}
-use Rattle.lend.specs.Pages.{OnlyPages}
+use Rattle.lend.specs.Pages.{OnlyPages, pageIn, mapIn}
 use Rattle.lend.specs.Touches.{Touches, MapBecomes, Sized}
 use Rattle.model.proofs.Lists.{all-left, all-right}
+use Rattle.model.proofs.Lawful as lawful
 use Rattle.page.proofs.Parts.{changed, part-low, part-high, length-part}
 
 pub touches-none : (ps : List ℕ) {w w′ : List ℕ} → w′ ≡ w → Touches ps w w′
-touches-none ps e = record { long = ap length e; head = ap (take headWords) e; others = λ q h. ap (λ (l : List ℕ). pageOf l q) e }
+touches-none ps e = record { long = ap length e; head = ap (take headWords) e; others = λ q h. ap (λ (l : List ℕ). pageIn l q) e }
 
 pub touches-then : {ps qs w w₁ w₂ : List ℕ} → Touches ps w w₁ → Touches qs w₁ w₂ → Touches (ps ++ qs) w w₂
 touches-then {ps} {qs} c d = record {
@@ -33,8 +34,8 @@ touches-wider qs c f = record { long = c .long; head = c .head; others = λ q h.
 -- ---- what stands in front is as it was
 
 -- the words in front of the pages hold the head
-pub front-head : (w w′ : List ℕ) → take (firstWord 0) w′ ≡ take (firstWord 0) w → take headWords w′ ≡ take headWords w
-front-head w w′ e = sym (take-take headWords (firstWord 0) w′ (omega arith)) ∙ ap (take headWords) e ∙ take-take headWords (firstWord 0) w (omega arith)
+pub front-head : (w w′ : List ℕ) → take (firstWord today 0) w′ ≡ take (firstWord today 0) w → take headWords w′ ≡ take headWords w
+front-head w w′ e = sym (take-take headWords (firstWord today 0) w′ (omega arith)) ∙ ap (take headWords) e ∙ take-take headWords (firstWord today 0) w (omega arith)
 
 -- words in front that are the same, one by one
 pub front-word : (n : ℕ) (w w′ : List ℕ) → take n w′ ≡ take n w → (i : ℕ) → i < n → word w′ i ≡ word w i
@@ -51,32 +52,31 @@ pub only-word : {ps w w′ : List ℕ} → OnlyPages ps w w′ → (i : ℕ) →
 only-word c = touches-word (only-touches c)
 
 -- all the words behind are a change of them: `page`'s `Parts` has the laws of such a change
-pub only-map : {ps w w′ : List ℕ} → OnlyPages ps w w′ → mapOf w′ ≡ mapOf w
-unfolding mapOf
+pub only-map : {ps w w′ : List ℕ} → OnlyPages ps w w′ → mapIn w′ ≡ mapIn w
+unfolding mapAt
 only-map {w} {w′} c =
-    let a : ℕ = firstWord 0 in
+    let a : ℕ = firstWord today 0 in
     let high : drop (a + length w) w′ ≡ drop (a + length w) w =
     drop-of-length-le w′ {i = a + length w} (omega (arith, c .long)) ∙ sym (drop-of-length-le w {i = a + length w} (omega arith)) in
     let change : Changed a (length w) (part a (length w) w′) w w′ = record { low = c .front; here = refl; high = high; long = c .long } in
-    part-low change headWords mapWords (omega arith)
+    part-low change headWords (mapWords today) (omega arith)
 
 -- ---- the map lent
 
 -- the map as it is lent, and the pool with ys in its place
 abbrev pub lentMap : List ℕ → List ℕ
-lentMap w = part headWords mapWords w
+lentMap w = part headWords (mapWords today) w
 
-pub map-long : (w : List ℕ) → firstWord 0 ≤ length w → length (lentMap w) ≡ mapWords
-map-long w h = length-part headWords mapWords w h
+pub map-long : (w : List ℕ) → firstWord today 0 ≤ length w → length (lentMap w) ≡ mapWords today
+map-long w h = length-part headWords (mapWords today) w h
 
 -- it has a bit for each page
-pub map-bits : (w : List ℕ) → Sized w → pagesIn (length w) ≤ 64 * length (mapOf w)
-unfolding mapOf
-map-bits w s = omega (arith, map-long w (omega arith))
+pub map-bits : (w : List ℕ) → Sized w → pagesIn today (length w) ≤ 64 * length (mapIn w)
+map-bits w s = lawful.map-bits today lawful.today-lawful w (s .0) (omega arith)
 
 -- neither head nor pages change, and the map is what came back, m
-pub map-back : (w ys m : List ℕ) → firstWord 0 ≤ length w → length ys ≡ length (lentMap w) → ys ≡ m → MapBecomes m w (put headWords mapWords ys w)
-unfolding mapOf pageOf
+pub map-back : (w ys m : List ℕ) → firstWord today 0 ≤ length w → length ys ≡ length (lentMap w) → ys ≡ m → MapBecomes m w (put headWords (mapWords today) ys w)
+unfolding mapAt pageAt
 map-back w ys m inside sized e =
-    let c : Changed headWords mapWords ys w (put headWords mapWords ys w) = changed refl (sized ∙ map-long w inside) inside in
-    record { map = c .here ∙ e; keeps = record { long = c .long; head = c .low; others = λ q _. part-high c (firstWord q) pageWords (omega arith) } }
+    let c : Changed headWords (mapWords today) ys w (put headWords (mapWords today) ys w) = changed refl (sized ∙ map-long w inside) inside in
+    record { map = c .here ∙ e; keeps = record { long = c .long; head = c .low; others = λ q _. part-high c (firstWord today q) (pageWords today) (omega arith) } }

@@ -1,4 +1,5 @@
 // The head: whether the length is allowed and the head fits, which every call asks first, and the number of levels. The tests come in document 01's order.
+ghost use Rattle.model.specs.Layout.{today, headWords, mostPages, mostLevels, allowed};
 ghost use mathlib.Core.Path.{_≡_};
 ghost use mathlib.Core.Bool.{true};
 ghost use mathlib.Core.List.{map};
@@ -6,7 +7,6 @@ ghost use Prim.Native.Nat.{_≤_};
 ghost use lib.Dec.{eqb};
 ghost use lib.ListN.{length};
 ghost use Rattle.model.specs.Lists.{every};
-ghost use Rattle.model.specs.Layout.{headWords, mostPages, mostLevels};
 ghost use Rattle.model.specs.Head.{levelsWord, spareWords, bothOrNeither, numberTests, headed};
 ghost use Rattle.model.specs.Layout as layout;
 use model::AFTER;
@@ -48,7 +48,7 @@ fn both_or_neither(a: u64, b: u64) -> bool
 
 // Whether a pool may have this length.
 pub fn allowed(n: usize) -> bool
-    ensures { λ r. ⌜ r ≡ layout.allowed n ⌝ }
+    ensures { λ r. ⌜ r ≡ layout.allowed today n ⌝ }
 {
     if n < FIRST_PAGE + PAGE_WORDS {
         return false;
@@ -62,8 +62,8 @@ pub fn allowed(n: usize) -> bool
 
 // Whether the head's numbers fit, in a pool of `pages` pages.
 fn numbers(pool: &[u64], pages: u64) -> bool
-    requires { ⌜ (headWords ≤ length (now pool)) × (pages ≤ mostPages) ⌝ }
-    ensures { λ r. ⌜ r ≡ every (numberTests pages (now (pool .entry))) ⌝ }
+    requires { ⌜ (headWords ≤ length (now pool)) × (pages ≤ mostPages today) ⌝ }
+    ensures { λ r. ⌜ r ≡ every (numberTests today pages (now (pool .entry))) ⌝ }
 {
     if pool[0] != 1 {
         return false;
@@ -115,7 +115,7 @@ pub fn fits(pool: &[u64]) -> bool
 // The number of levels.
 pub fn levels(pool: &[u64]) -> usize
     requires { ⌜ headed (now pool) ≡ true ⌝ }
-    ensures { λ r. ⌜ (r ≡ levelsWord (now (pool .entry))) × (r ≤ mostLevels) ⌝ }
+    ensures { λ r. ⌜ (r ≡ levelsWord (now (pool .entry))) × (r ≤ mostLevels today) ⌝ }
 {
     pool[LEVELS] as usize
 }

@@ -1,5 +1,6 @@
 // A page lent out of the pool's middle, `&mut pool[a..b]`, to the crate `page`; and what moves between two pages of one pool, which are lent one after the
 // other: an entry and a child travel by value, one at a time. Every function takes any words; page numbers lie inside the pool.
+ghost use Rattle.model.specs.Layout.{today, pageWords};
 ghost use mathlib.Core.Path.{_≡_};
 ghost use mathlib.Core.Logic.{_≢_};
 ghost use mathlib.Core.Bool.{true, false};
@@ -7,15 +8,14 @@ ghost use mathlib.Core.List.{[], _∷_};
 ghost use Prim.Native.Nat.{suc, _+_, _-_, _≤_, _<_};
 ghost use lib.ListN.{length, getD};
 ghost use Rattle.model.specs.Lists.{ins, every};
-ghost use Rattle.model.specs.Layout.{pageWords};
 ghost use Rattle.model.specs.Tree.{entry, noEntry};
-ghost use Rattle.model.specs.Page.{pageOf, countOf, heightOf, entryIn, childIn, entriesOf, childrenOf, Holds};
+ghost use Rattle.model.specs.Page.{countOf, heightOf, entryIn, childIn, entriesOf, childrenOf, Holds};
 ghost use Rattle.model.specs.Insert.{cutRight};
 ghost use Rattle.model.specs.Mend.{glue};
 ghost use Rattle.page.specs.Node.{alone, more, wider, less, instead};
 ghost use Rattle.page.specs.Runs.{upTo};
 ghost use Rattle.page.specs.Page.{roomAt, holdsAt, fullAt, gapIn, placeOf};
-ghost use Rattle.lend.specs.Pages.{most, keeps, Inside, OnlyPages, nodeIn, Becomes, ChangesIn, KeepsIn, canSplit, SplitsIn, areApart, canPass, PassesIn, MovesIn, canGive, canGet, canJoin, JoinsIn};
+ghost use Rattle.lend.specs.Pages.{most, keeps, Inside, OnlyPages, nodeIn, Becomes, ChangesIn, KeepsIn, canSplit, SplitsIn, areApart, canPass, PassesIn, MovesIn, canGive, canGet, canJoin, JoinsIn, pageIn};
 use model::FIRST_PAGE;
 use model::KEPT;
 use model::LEAST;
@@ -36,8 +36,8 @@ const BEHIND: usize = KEPT + 2;
 
 pub fn page_at(pool: &[u64], p: usize) -> &[u64]
     requires { ⌜ Inside p (now pool) ⌝ }
-    ensures { λ r. ⌜ now r ≡ pageOf (now (pool .entry)) p ⌝ }
-    ensures { λ r. ⌜ length (now r) ≡ pageWords ⌝ }
+    ensures { λ r. ⌜ now r ≡ pageIn (now (pool .entry)) p ⌝ }
+    ensures { λ r. ⌜ length (now r) ≡ pageWords today ⌝ }
 {
     let a = FIRST_PAGE + PAGE_WORDS * p;
     &pool[a..a + PAGE_WORDS]
@@ -45,49 +45,49 @@ pub fn page_at(pool: &[u64], p: usize) -> &[u64]
 
 pub fn gap_before(pool: &[u64], p: usize, key: u64) -> Slot
     requires { ⌜ Inside p (now pool) ⌝ }
-    ensures { λ r. ⌜ r ≡ gapIn most (pageOf (now (pool .entry)) p) (upTo key false) ⌝ }
+    ensures { λ r. ⌜ r ≡ gapIn most (pageIn (now (pool .entry)) p) (upTo key false) ⌝ }
 {
     page::gap_before(page_at(pool, p), MOST, key)
 }
 
 pub fn gap_after(pool: &[u64], p: usize, key: u64) -> Slot
     requires { ⌜ Inside p (now pool) ⌝ }
-    ensures { λ r. ⌜ r ≡ gapIn most (pageOf (now (pool .entry)) p) (upTo key true) ⌝ }
+    ensures { λ r. ⌜ r ≡ gapIn most (pageIn (now (pool .entry)) p) (upTo key true) ⌝ }
 {
     page::gap_after(page_at(pool, p), MOST, key)
 }
 
 pub fn find(pool: &[u64], p: usize, key: u64) -> Place
     requires { ⌜ Inside p (now pool) ⌝ }
-    ensures { λ r. ⌜ r ≡ placeOf most (pageOf (now (pool .entry)) p) key ⌝ }
+    ensures { λ r. ⌜ r ≡ placeOf most (pageIn (now (pool .entry)) p) key ⌝ }
 {
     page::find(page_at(pool, p), MOST, key)
 }
 
 pub fn count(pool: &[u64], p: usize) -> usize
     requires { ⌜ Inside p (now pool) ⌝ }
-    ensures { λ r. ⌜ r ≡ countOf (pageOf (now (pool .entry)) p) ⌝ }
+    ensures { λ r. ⌜ r ≡ countOf (pageIn (now (pool .entry)) p) ⌝ }
 {
     page::count(page_at(pool, p))
 }
 
 pub fn height(pool: &[u64], p: usize) -> u64
     requires { ⌜ Inside p (now pool) ⌝ }
-    ensures { λ r. ⌜ r ≡ heightOf (pageOf (now (pool .entry)) p) ⌝ }
+    ensures { λ r. ⌜ r ≡ heightOf (pageIn (now (pool .entry)) p) ⌝ }
 {
     page::height(page_at(pool, p))
 }
 
 pub fn entry_at(pool: &[u64], p: usize, slot: usize) -> Entry
     requires { ⌜ Inside p (now pool) × (slot < most) ⌝ }
-    ensures { λ r. ⌜ entry (r .key) (r .value) ≡ entryIn most (pageOf (now (pool .entry)) p) slot ⌝ }
+    ensures { λ r. ⌜ entry (r .key) (r .value) ≡ entryIn most (pageIn (now (pool .entry)) p) slot ⌝ }
 {
     page::entry_at(page_at(pool, p), MOST, slot)
 }
 
 pub fn child_at(pool: &[u64], p: usize, at: usize) -> u64
     requires { ⌜ Inside p (now pool) × (at ≤ most) ⌝ }
-    ensures { λ r. ⌜ r ≡ childIn most (pageOf (now (pool .entry)) p) at ⌝ }
+    ensures { λ r. ⌜ r ≡ childIn most (pageIn (now (pool .entry)) p) at ⌝ }
 {
     page::child_at(page_at(pool, p), MOST, at)
 }
@@ -96,7 +96,7 @@ pub fn child_at(pool: &[u64], p: usize, at: usize) -> u64
 
 pub fn single(pool: &mut [u64], p: usize, height: u64, key: u64, value: u64, left: u64, right: u64)
     requires { ⌜ Inside p (now pool) ⌝ }
-    ensures { λ _. ⌜ Holds most height (alone (entry key value) left right) (pageOf (now (pool .exit)) p) ⌝ }
+    ensures { λ _. ⌜ Holds most height (alone (entry key value) left right) (pageIn (now (pool .exit)) p) ⌝ }
     ensures { λ _. ⌜ OnlyPages (p ∷ []) (now (pool .entry)) (now (pool .exit)) ⌝ }
 {
     let a = FIRST_PAGE + PAGE_WORDS * p;
@@ -113,7 +113,7 @@ pub fn single(pool: &mut [u64], p: usize, height: u64, key: u64, value: u64, lef
 
 pub fn set_entry(pool: &mut [u64], p: usize, slot: usize, key: u64, value: u64) -> Change
     requires { ⌜ Inside p (now pool) ⌝ }
-    ensures { λ r. ⌜ ChangesIn p (holdsAt most (pageOf (now (pool .entry)) p) slot 0) (instead slot (entry key value) (nodeIn (now (pool .entry)) p)) (now (pool .entry)) (now (pool .exit)) r ⌝ }
+    ensures { λ r. ⌜ ChangesIn p (holdsAt most (pageIn (now (pool .entry)) p) slot 0) (instead slot (entry key value) (nodeIn (now (pool .entry)) p)) (now (pool .entry)) (now (pool .exit)) r ⌝ }
 {
     let a = FIRST_PAGE + PAGE_WORDS * p;
     page::set_entry(&mut pool[a..a + PAGE_WORDS], MOST, slot, key, value)
@@ -129,7 +129,7 @@ pub fn insert(
     child: u64,
 ) -> Change
     requires { ⌜ Inside p (now pool) ⌝ }
-    ensures { λ r. ⌜ ChangesIn p (roomAt most (pageOf (now (pool .entry)) p) slot at) (more slot (entry key value) at child (nodeIn (now (pool .entry)) p)) (now (pool .entry)) (now (pool .exit)) r ⌝ }
+    ensures { λ r. ⌜ ChangesIn p (roomAt most (pageIn (now (pool .entry)) p) slot at) (more slot (entry key value) at child (nodeIn (now (pool .entry)) p)) (now (pool .entry)) (now (pool .exit)) r ⌝ }
 {
     let a = FIRST_PAGE + PAGE_WORDS * p;
     page::insert(
@@ -154,7 +154,7 @@ pub fn put_last(
     child: u64,
 ) -> Change
     requires { ⌜ Inside p (now pool) ⌝ }
-    ensures { λ r. ⌜ ChangesIn p (roomAt most (pageOf (now (pool .entry)) p) slot at) (more slot (entry key value) at child (nodeIn (now (pool .entry)) p)) (now (pool .entry)) (now (pool .exit)) r ⌝ }
+    ensures { λ r. ⌜ ChangesIn p (roomAt most (pageIn (now (pool .entry)) p) slot at) (more slot (entry key value) at child (nodeIn (now (pool .entry)) p)) (now (pool .entry)) (now (pool .exit)) r ⌝ }
 {
     let a = FIRST_PAGE + PAGE_WORDS * p;
     page::put_last(
@@ -170,7 +170,7 @@ pub fn put_last(
 
 pub fn remove(pool: &mut [u64], p: usize, slot: usize, at: usize) -> Change
     requires { ⌜ Inside p (now pool) ⌝ }
-    ensures { λ r. ⌜ ChangesIn p (holdsAt most (pageOf (now (pool .entry)) p) slot at) (less slot at (nodeIn (now (pool .entry)) p)) (now (pool .entry)) (now (pool .exit)) r ⌝ }
+    ensures { λ r. ⌜ ChangesIn p (holdsAt most (pageIn (now (pool .entry)) p) slot at) (less slot at (nodeIn (now (pool .entry)) p)) (now (pool .entry)) (now (pool .exit)) r ⌝ }
 {
     let a = FIRST_PAGE + PAGE_WORDS * p;
     page::remove(&mut pool[a..a + PAGE_WORDS], MOST, slot, at)
@@ -180,16 +180,16 @@ pub fn remove(pool: &mut [u64], p: usize, slot: usize, at: usize) -> Change
 
 // Entry `i` of a full page with one entry more.
 fn wider_entry(pool: &[u64], p: usize, slot: usize, key: u64, value: u64, i: usize) -> Entry
-    requires { ⌜ Inside p (now pool) × (fullAt most (pageOf (now pool) p) slot ≡ true) × (i ≤ most) ⌝ }
-    ensures { λ r. ⌜ entry (r .key) (r .value) ≡ getD (ins slot (entry key value) (entriesOf most (pageOf (now (pool .entry)) p))) i noEntry ⌝ }
+    requires { ⌜ Inside p (now pool) × (fullAt most (pageIn (now pool) p) slot ≡ true) × (i ≤ most) ⌝ }
+    ensures { λ r. ⌜ entry (r .key) (r .value) ≡ getD (ins slot (entry key value) (entriesOf most (pageIn (now (pool .entry)) p))) i noEntry ⌝ }
 {
     page::wider_entry(page_at(pool, p), MOST, slot, key, value, i)
 }
 
 // Child `i` of it.
 fn wider_child(pool: &[u64], p: usize, slot: usize, child: u64, i: usize) -> u64
-    requires { ⌜ Inside p (now pool) × (fullAt most (pageOf (now pool) p) slot ≡ true) × (i ≤ suc most) ⌝ }
-    ensures { λ r. ⌜ r ≡ getD (ins (suc slot) child (childrenOf most (pageOf (now (pool .entry)) p))) i 0 ⌝ }
+    requires { ⌜ Inside p (now pool) × (fullAt most (pageIn (now pool) p) slot ≡ true) × (i ≤ suc most) ⌝ }
+    ensures { λ r. ⌜ r ≡ getD (ins (suc slot) child (childrenOf most (pageIn (now (pool .entry)) p))) i 0 ⌝ }
 {
     page::wider_child(page_at(pool, p), MOST, slot + 1, child, i)
 }
@@ -197,8 +197,8 @@ fn wider_child(pool: &[u64], p: usize, slot: usize, child: u64, i: usize) -> u64
 // Page `q` gets the last four of ten. Page `p` is full, and is left as it was.
 fn give(pool: &mut [u64], p: usize, q: usize, slot: usize, key: u64, value: u64, child: u64)
     requires { ⌜ Inside p (now pool) × Inside q (now pool) × (p ≢ q) ⌝ }
-    requires { ⌜ fullAt most (pageOf (now pool) p) slot ≡ true ⌝ }
-    ensures { λ _. ⌜ Holds most (heightOf (pageOf (now (pool .entry)) p)) (cutRight q keeps (wider slot (entry key value) child (nodeIn (now (pool .entry)) p))) (pageOf (now (pool .exit)) q) ⌝ }
+    requires { ⌜ fullAt most (pageIn (now pool) p) slot ≡ true ⌝ }
+    ensures { λ _. ⌜ Holds most (heightOf (pageIn (now (pool .entry)) p)) (cutRight q keeps (wider slot (entry key value) child (nodeIn (now (pool .entry)) p))) (pageIn (now (pool .exit)) q) ⌝ }
     ensures { λ _. ⌜ OnlyPages (q ∷ []) (now (pool .entry)) (now (pool .exit)) ⌝ }
 {
     let h = height(pool, p);
@@ -218,7 +218,7 @@ fn give(pool: &mut [u64], p: usize, q: usize, slot: usize, key: u64, value: u64,
 // Page `p` keeps the first five of ten, and the sixth goes up.
 fn keep(pool: &mut [u64], p: usize, slot: usize, key: u64, value: u64, child: u64) -> Parting
     requires { ⌜ Inside p (now pool) ⌝ }
-    ensures { λ r. ⌜ KeepsIn p (fullAt most (pageOf (now (pool .entry)) p) slot) (wider slot (entry key value) child (nodeIn (now (pool .entry)) p)) (now (pool .entry)) (now (pool .exit)) r ⌝ }
+    ensures { λ r. ⌜ KeepsIn p (fullAt most (pageIn (now (pool .entry)) p) slot) (wider slot (entry key value) child (nodeIn (now (pool .entry)) p)) (now (pool .entry)) (now (pool .exit)) r ⌝ }
 {
     let a = FIRST_PAGE + PAGE_WORDS * p;
     page::split(
@@ -326,7 +326,7 @@ fn pass(
 // The right page takes one through the parent from its left neighbour.
 pub fn take_left(pool: &mut [u64], u: usize, i: usize, l: usize, r: usize) -> Change
     requires { ⌜ Inside u (now pool) × Inside l (now pool) × Inside r (now pool) ⌝ }
-    ensures { λ a. ⌜ MovesIn u i l r (countOf (pageOf (now (pool .entry)) l) - 1) (canGive (now (pool .entry)) u i l r) (now (pool .entry)) (now (pool .exit)) a ⌝ }
+    ensures { λ a. ⌜ MovesIn u i l r (countOf (pageIn (now (pool .entry)) l) - 1) (canGive (now (pool .entry)) u i l r) (now (pool .entry)) (now (pool .exit)) a ⌝ }
 {
     let n = count(pool, l);
     if n == 0 {
@@ -338,7 +338,7 @@ pub fn take_left(pool: &mut [u64], u: usize, i: usize, l: usize, r: usize) -> Ch
 // The left page takes one through the parent from its right neighbour.
 pub fn take_right(pool: &mut [u64], u: usize, i: usize, l: usize, r: usize) -> Change
     requires { ⌜ Inside u (now pool) × Inside l (now pool) × Inside r (now pool) ⌝ }
-    ensures { λ a. ⌜ MovesIn u i l r (suc (countOf (pageOf (now (pool .entry)) l))) (canGet (now (pool .entry)) u i l r) (now (pool .entry)) (now (pool .exit)) a ⌝ }
+    ensures { λ a. ⌜ MovesIn u i l r (suc (countOf (pageIn (now (pool .entry)) l))) (canGet (now (pool .entry)) u i l r) (now (pool .entry)) (now (pool .exit)) a ⌝ }
 {
     let n = count(pool, l);
     if MOST < n {
@@ -375,7 +375,7 @@ fn can_join(pool: &[u64], u: usize, i: usize, l: usize, r: usize) -> bool
 // An entry, and then all of page `r`, at the end of page `l`.
 fn append(pool: &mut [u64], l: usize, key: u64, value: u64, r: usize)
     requires { ⌜ Inside l (now pool) × Inside r (now pool) × (l ≢ r) ⌝ }
-    requires { ⌜ (1 ≤ countOf (pageOf (now pool) l)) × (countOf (pageOf (now pool) l) + countOf (pageOf (now pool) r) < most) ⌝ }
+    requires { ⌜ (1 ≤ countOf (pageIn (now pool) l)) × (countOf (pageIn (now pool) l) + countOf (pageIn (now pool) r) < most) ⌝ }
     ensures { λ _. ⌜ Becomes l (glue (nodeIn (now (pool .entry)) l) (entry key value) (nodeIn (now (pool .entry)) r)) (now (pool .entry)) (now (pool .exit)) ⌝ }
     ensures { λ _. ⌜ OnlyPages (l ∷ []) (now (pool .entry)) (now (pool .exit)) ⌝ }
 {

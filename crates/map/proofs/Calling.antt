@@ -10,13 +10,12 @@ use Prim.Native.Nat.{ℕ, zero, suc, _+_, _<_}
 use native.Mathlib.Omega.{arith}
 use lib.ListN.{length, getD}
 use borrow.Author.Tests.{not-true}
-use Rattle.model.specs.Layout.{least}
 use Rattle.model.specs.Head.{levelsWord}
 use Rattle.model.specs.Tree.{Entry, entry, noEntry}
 use Rattle.model.specs.Entries.{has, lookup}
 use Rattle.model.specs.Gap.{Found}
 use Rattle.model.specs.Write.{write}
-use Rattle.model.specs.Pool.{Pool, heldBy, poolOf, wholeOf, withWhole}
+use Rattle.model.specs.Pool.{Pool, heldBy, poolOf, wholeOf, withWhole, leastBy}
 use Rattle.model.specs.Sound.{Sound}
 use Rattle.model.specs.Written.{Written}
 use Rattle.model.specs.Refusal.{Test, _when_, refusal, mapKind, setKind}
@@ -73,7 +72,7 @@ module _ (w : List ℕ) (k : ℕ) where
     unfolding file
     filed-again kind =
         let zero-there = all-at (λ (e : Entry). e .value ≡ 0) (heldBy (poolOf w)) (gapFor k w) noEntry (here .0) (sound-right w s .zeros kind) in
-        rw (y, write-same least (poolOf w .whole) (gapFor k w) (entry k 0) (sound-right w s .formed) (here .0) (ap₂ entry (here .1) zero-there))
+        rw (y, write-same (leastBy (poolOf w)) (poolOf w .whole) (gapFor k w) (entry k 0) (sound-right w s .formed) (here .0) (ap₂ entry (here .1) zero-there))
 
   -- where it stands it is overwritten
   pub overwritten : {p i x old : ℕ} {v : List ℕ} → StandsAt w k p i → Writes p i x w v old → (s : Sound w)

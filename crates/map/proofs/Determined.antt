@@ -4,7 +4,8 @@ use mathlib.Core.Path.{refl}
 use mathlib.Core.Bool.{cond}
 use mathlib.Core.Option.{none, some}
 use Prim.Native.Nat.{ℕ}
-use Rattle.model.specs.Head.{kindWord}
+use Rattle.model.specs.Layout.{today}
+use Rattle.model.specs.Head.{geometryOf, kindWord}
 use Rattle.model.specs.PoolCalls.{makeTests, clearTests, poolCount, poolIsEmpty}
 use Rattle.model.specs.MapCalls.{mapInsert, mapGet, mapContains, mapReplace, mapRemove}
 use Rattle.model.specs.SetCalls.{setInsert, setGet, setContains, setRemove}
@@ -40,11 +41,11 @@ empty-tells = outcome-tells emptyOf empty.Refused (λ b. cond b empty.Yes empty.
 pub checked-tells : Tells checkedOf
 checked-tells = back-tells checkedOf (λ b. cond b checked.Sound checked.Unsound) (elim [ checked.Sound ↦ refl | checked.Unsound ↦ refl ])
 
-pub make-determined : (kind : ℕ) → MakesDetermined (makeTests kind) (λ w. kind) answerOf
-make-determined kind = makes-determined answerOf answer-tells (makeTests kind) (λ w. kind)
+pub make-determined : (kind : ℕ) → MakesDetermined (makeTests kind) (λ w. today) (λ w. kind) answerOf
+make-determined kind = makes-determined answerOf answer-tells (makeTests kind) (λ w. today) (λ w. kind)
 
-pub clear-determined : MakesDetermined clearTests kindWord answerOf
-clear-determined = makes-determined answerOf answer-tells clearTests kindWord
+pub clear-determined : MakesDetermined clearTests geometryOf kindWord answerOf
+clear-determined = makes-determined answerOf answer-tells clearTests geometryOf kindWord
 
 pub copy-determined : CopiesDetermined answerOf
 copy-determined = copies-determined answerOf answer-tells

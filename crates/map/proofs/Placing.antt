@@ -12,13 +12,13 @@ use lib.Dec.{ltb, eqb}
 use lib.ListN.{length, getD}
 use borrow.Author.Tests.{lt-ltb, eq-eqb, ne-eqb}
 use Rattle.model.specs.Tree.{entry, noEntry, held}
-use Rattle.model.specs.Page.{pageOf, entryIn}
+use Rattle.model.specs.Page.{entryIn}
 use Rattle.model.specs.Pool.{heldBy, poolOf}
 use Rattle.model.specs.Sound.{Sound}
 use Rattle.model.specs.Source.{view, member}
 use Rattle.page.specs.declared.Change.{Change}
 use Rattle.page.specs.declared.Change.the-variants as change
-use Rattle.lend.specs.Pages.{most}
+use Rattle.lend.specs.Pages.{most, pageIn}
 use Rattle.tree.specs.declared.insert.Inserted.{Inserted}
 use Rattle.tree.specs.declared.insert.Inserted.the-variants as inserted
 use Rattle.tree.specs.declared.search.Aim.the-variants.{Before}
@@ -65,7 +65,7 @@ module _ (w : List ℕ) (k : ℕ) (sound : Sound w) where
       (λ n. n)
 
   -- the entry read at the spot is the one after the gap
-  module _ (p s key v : ℕ) (at : spotFor k w ≡ spot.At p s) (read : entry key v ≡ entryIn most (pageOf w p) s) where
+  module _ (p s key v : ℕ) (at : spotFor k w ≡ spot.At p s) (read : entry key v ≡ entryIn most (pageIn w p) s) where
     spot-read : entry key v ≡ getD (heldBy (poolOf w)) (gapFor k w) noEntry
     unfolding spotFor
     spot-read = read ∙ spot-there w sound (gapFor k w) (gap-inside w k) at .1
@@ -114,7 +114,7 @@ module _ {w ps ss ps′ ss′ : List ℕ} {k : ℕ} {b : Bool} (path : search.Se
     pub seeks-end : x ≡ spot.End → Seeks w k ps ss ps′ ss′ sought.Absent
     seeks-end e = seeks-absent (λ sound. end-absent w k sound (spot-is sound ∙ e))
 
-    module _ {p s key v : ℕ} (at : x ≡ spot.At p s) (read : entry key v ≡ entryIn most (pageOf w p) s) where
+    module _ {p s key v : ℕ} (at : x ≡ spot.At p s) (read : entry key v ≡ entryIn most (pageIn w p) s) where
       key-there : Sound w → member w k ≡ eqb key k
       key-there sound = spot-key w k sound p s key v (spot-is sound ∙ at) read
 
@@ -196,7 +196,7 @@ module _ {w ps ss ps′ ss′ : List ℕ} {k : ℕ} {x : Sought} (seeks : Seeks 
     here-entry : Sound w → gapFor k w < length (heldBy (poolOf w))
     here-entry sound = gap-entry w k sound p s (seeks .finds .here p s e .there sound .1)
 
-    pub strikes-done : {key v : ℕ} → entry key v ≡ entryIn most (pageOf w p) s → r ≡ change.Done → Strikes k w w′ (struck.Value v)
+    pub strikes-done : {key v : ℕ} → entry key v ≡ entryIn most (pageIn w p) s → r ≡ change.Done → Strikes k w w′ (struck.Value v)
     strikes-done {key} {v} read done = record {
       long = removes .long;
       value = λ v′ q sound.

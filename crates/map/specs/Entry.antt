@@ -7,11 +7,10 @@ use mathlib.Core.Option.{none, some}
 use mathlib.Core.List.{List}
 use Prim.Native.Nat.{ℕ, _≤_, _<_}
 use lib.ListN.{length}
-use Rattle.model.specs.Layout.{least}
 use Rattle.model.specs.Tree.{entry}
 use Rattle.model.specs.Entries.{gapBefore}
 use Rattle.model.specs.Remove.{remove}
-use Rattle.model.specs.Pool.{heldBy, poolOf, gapBy, withWhole}
+use Rattle.model.specs.Pool.{heldBy, poolOf, gapBy, withWhole, leastBy}
 use Rattle.model.specs.Sound.{Sound}
 use Rattle.model.specs.Written.{Written}
 use Rattle.model.specs.MapCalls.{putAt, crowded}
@@ -80,7 +79,7 @@ pub record Adds (k v : ℕ) (w w′ : List ℕ) (r : Added) : Type 0 where
 
 pub record TakenOut (k v : ℕ) (w w′ : List ℕ) : Type 0 where
   pub value : view w k ≡ some v
-  pub holds : gapBy (poolOf w) ≤ gapFor k w → Written w′ (withWhole (poolOf w) (remove least (poolOf w .whole) (gapFor k w)))
+  pub holds : gapBy (poolOf w) ≤ gapFor k w → Written w′ (withWhole (poolOf w) (remove (leastBy (poolOf w)) (poolOf w .whole) (gapFor k w)))
 
 pub record Strikes (k : ℕ) (w w′ : List ℕ) (r : Struck) : Type 0 where
   pub long : length w′ ≡ length w

@@ -5,7 +5,7 @@ ghost use mathlib.Core.List.{[], _∷_};
 ghost use mathlib.Core.Bool.{true};
 ghost use Prim.Native.Nat.{_≤_};
 ghost use lib.ListN.{length, set};
-ghost use Rattle.model.specs.Layout.{firstWord};
+ghost use Rattle.model.specs.Layout.{today, firstWord};
 ghost use Rattle.model.specs.Head.{levelsWord, headed};
 ghost use Rattle.model.specs.Bound.{boundOf};
 ghost use Rattle.model.specs.Refusal.{mapKind};
@@ -62,7 +62,7 @@ fn run(
     keys: &mut [u64],
     values: &mut [u64],
 ) -> Listed
-    requires { ⌜ firstWord 0 ≤ length (now pool) ⌝ }
+    requires { ⌜ firstWord today 0 ≤ length (now pool) ⌝ }
     requires { ⌜ PathIn (now pool) (now pages) (now slots) ⌝ }
     ensures { λ r. ⌜ Runs (now (pool .entry)) upper (now (pages .entry)) (now (slots .entry)) most (now (keys .entry)) (now (values .entry)) (now (keys .exit)) (now (values .exit)) r ⌝ }
 {

@@ -4,8 +4,8 @@ ghost use mathlib.Core.Bool.{true};
 ghost use Prim.Native.Nat.{_≤_};
 ghost use lib.ListN.{length};
 ghost use Rattle.model.specs.Lists.{tab};
-ghost use Rattle.model.specs.Layout.{allowed, pagesIn};
-ghost use Rattle.model.specs.Head.{kindWord};
+ghost use Rattle.model.specs.Layout.{allowed, pagesIn, today};
+ghost use Rattle.model.specs.Head.{geometryOf, kindWord};
 ghost use Rattle.model.specs.Pool.{made};
 ghost use Rattle.model.specs.Written.{Written};
 ghost use Rattle.model.specs.Call.{Meets};
@@ -52,8 +52,8 @@ fn zero(words: &mut [u64])
 
 // A pool just made, whatever the words were; its pages keep theirs.
 fn lay(pool: &mut [u64], kind: u64)
-    requires { ⌜ (allowed (length (now pool)) ≡ true) × (kind ≤ 1) ⌝ }
-    ensures { λ _. ⌜ Written (now (pool .exit)) (made (pagesIn (length (now (pool .entry)))) kind) ⌝ }
+    requires { ⌜ (allowed today (length (now pool)) ≡ true) × (kind ≤ 1) ⌝ }
+    ensures { λ _. ⌜ Written (now (pool .exit)) (made today (pagesIn today (length (now (pool .entry)))) kind) ⌝ }
 {
     let pages = lend::bits::pages_in(pool);
     zero(&mut pool[0..FIRST_PAGE]);
@@ -64,7 +64,7 @@ fn lay(pool: &mut [u64], kind: u64)
 
 // A new pool of a kind, in any words of a length that is allowed.
 pub fn make(pool: &mut [u64], kind: u64) -> Answer
-    ensures { λ r. ⌜ Makes (makeTests kind (now (pool .entry))) kind (now (pool .entry)) (now (pool .exit)) (answerOf r) ⌝ }
+    ensures { λ r. ⌜ Makes (makeTests kind (now (pool .entry))) today kind (now (pool .entry)) (now (pool .exit)) (answerOf r) ⌝ }
 {
     if !lend::head::allowed(pool.len()) {
         return Answer::Refused(Refusal::Unfit);
@@ -78,7 +78,7 @@ pub fn make(pool: &mut [u64], kind: u64) -> Answer
 
 // The same pool with no entry; it keeps its kind.
 pub fn clear(pool: &mut [u64]) -> Answer
-    ensures { λ r. ⌜ Makes (clearTests (now (pool .entry))) (kindWord (now (pool .entry))) (now (pool .entry)) (now (pool .exit)) (answerOf r) ⌝ }
+    ensures { λ r. ⌜ Makes (clearTests (now (pool .entry))) (geometryOf (now (pool .entry))) (kindWord (now (pool .entry))) (now (pool .entry)) (now (pool .exit)) (answerOf r) ⌝ }
 {
     if !lend::head::fits(pool) {
         return Answer::Refused(Refusal::Unfit);

@@ -6,8 +6,9 @@ use mathlib.Core.List.{List, [], _∷_, map}
 use Prim.Native.Nat.{ℕ, zero, suc, min, _+_}
 use native.Mathlib.Omega.{arith}
 use lib.ListN.{length, take, drop}
+use Rattle.model.specs.declared.Geometry.{Geometry}
 use Rattle.model.specs.Lists.{All}
-use Rattle.model.specs.Layout.{least}
+use Rattle.model.specs.Head.{leastOf}
 use Rattle.model.specs.Tree.{Entry}
 use Rattle.model.specs.Bound.{boundOf}
 use Rattle.model.specs.Entries.{between, gap}
@@ -26,7 +27,7 @@ use Rattle.model.proofs.Standing.{page-alike-self}
 use Rattle.model.proofs.Alike.{alike}
 
 pub alike-self : (w v : List ℕ) → w ≡ v → Alike w v
-alike-self w v e = rw e (record { long = refl; front = refl; pages = λ p t. page-alike-self least refl })
+alike-self w v e = rw e (record { long = refl; front = refl; pages = λ p t. page-alike-self (leastOf v) refl })
 
 module _ {R A : Type 0} (of : R → Outcome A) (tells : Tells of) where
   -- two that are given the same
@@ -67,8 +68,8 @@ by-given zero a b answer refuse = answer a b
 by-given (suc n) a b answer refuse = refuse (suc n) a b
 
 module _ {R : Type 0} (of : R → Outcome (Unit {0})) (tells : Tells of) where
-  pub makes-determined : (tests : List ℕ → List Test) (kind : List ℕ → ℕ) → MakesDetermined tests kind of
-  makes-determined tests kind w v u r s vs us a b = (
+  pub makes-determined : (tests : List ℕ → List Test) (geometry : List ℕ → Geometry) (kind : List ℕ → ℕ) → MakesDetermined tests geometry kind of
+  makes-determined tests geometry kind w v u r s vs us a b = (
     same-given of tells (a .exact) (b .exact),
     by-given (refusal (tests w)) (a .exact) (b .exact)
         (λ x y. let c = a .makes x in let d = b .makes y in alike v u vs us (c .0) (d .0) (c .1 ∙ sym (d .1)))

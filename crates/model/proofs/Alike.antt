@@ -7,10 +7,11 @@ use native.Mathlib.Omega.{arith}
 use lib.ListN.{length, take, drop, getD, length-take, length-drop, List·getD-eq-default}
 use lib.Seq.{take-add, getD-take, getD-drop, ext-getD}
 use Rattle.model.specs.Lists.{sum, All}
-use Rattle.model.specs.Layout.{headWords, mapWords, least, word, Words}
-use Rattle.model.specs.PageMap.{mapOf}
+use Rattle.model.specs.Layout.{headWords, mapWords, firstWord, word, Words}
+use Rattle.model.specs.Head.{geometryOf, leastOf}
+use Rattle.model.specs.PageMap.{mapAt}
 use Rattle.model.specs.Tree.{Tree, times, meets}
-use Rattle.model.specs.Page.{pageOf}
+use Rattle.model.specs.Page.{pageAt, pageOf}
 use Rattle.model.specs.Standing.{Standing, Stands}
 use Rattle.model.specs.Pool.{Pool, poolOf}
 use Rattle.model.specs.Sound.{Sound}
@@ -55,13 +56,24 @@ words-part w k n h i =
     (λ l. rw (List·getD-eq-default (take n (drop k w)) 0 {n = i} (simp length-take (omega arith))) (omega arith))
 
 pub written-alike : (w v : List ℕ) (p : Pool) → Words w → Words v → Written w p → Written v p → Alike w v
-unfolding meets mapOf
+unfolding meets mapAt
 written-alike w v p ws vs a b = record {
   long = long;
-  front = take-add headWords mapWords w ∙ ap₂ _++_ front-head front-map ∙ sym (take-add headWords mapWords v);
-  pages = λ q t. pages-alike least (pageOf w) (pageOf v) q (p .whole .levels) (p .whole .tree) (a .stands) (b .stands) (omega (arith, a .bits q));
+  front = parts w ∙ ap₂ _++_ front-head front-map ∙ sym (parts v);
+  pages =
+      rw same (λ q t. pages-alike (leastOf w) (pageOf w) (pageAt (geometryOf w) v) q (p .whole .levels) (p .whole .tree) (a .stands) (rw (same, leastOf) at (b .stands))
+      (omega (arith, a .bits q)));
 }
   where
+    same : geometryOf v ≡ geometryOf w
+    same = b .geometry ∙ sym (a .geometry)
+
+    -- in front of the pages stand the head and the map
+    parts : (u : List ℕ) → take (firstWord (geometryOf w) 0) u ≡ take headWords u ++ mapAt (geometryOf w) u
+    parts u =
+        let long : firstWord (geometryOf w) 0 ≡ headWords + mapWords (geometryOf w) = omega arith in
+        ap (λ (n : ℕ). take n u) long ∙ take-add headWords (mapWords (geometryOf w)) u
+
     long : length w ≡ length v
     long = a .long ∙ sym (b .long)
 
@@ -78,10 +90,10 @@ written-alike w v p ws vs a b = record {
         let l : i < headWords = omega (arith, simp length-take at h) in
         getD-take headWords w i 0 l ∙ head i l ∙ sym (getD-take headWords v i 0 l))
 
-    front-map : mapOf w ≡ mapOf v
+    front-map : mapAt (geometryOf w) w ≡ mapAt (geometryOf w) v
     front-map =
-        map-ext (mapOf w) (mapOf v) (simp (length-take, length-drop, long)) (words-part w headWords mapWords ws) (words-part v headWords mapWords vs)
-        (λ q. a .bits q ∙ sym (b .bits q))
+        map-ext (mapAt (geometryOf w) w) (mapAt (geometryOf w) v) (simp (length-take, length-drop, long))
+        (words-part w headWords (mapWords (geometryOf w)) ws) (words-part v headWords (mapWords (geometryOf w)) vs) (λ q. a .bits q ∙ sym (rw same at (b .bits q)))
 
 pub alike : (w v : List ℕ) → Words w → Words v → Sound w → Sound v → poolOf w ≡ poolOf v → Alike w v
 alike w v ws vs a b e = written-alike w v (poolOf w) ws vs (sound-written w a) (rw e (sound-written v b))

@@ -1,17 +1,17 @@
 -- What each changing call leaves, of a pool that is right: the entries are the list model's, and the pool stays right where the call is not refused.
 -- Assumes nothing.
-use mathlib.Core.Path.{_≡_, subst, _∙_}
+use mathlib.Core.Path.{_≡_, refl, subst, _∙_}
 use mathlib.Core.Bool.{true, false, Bool, cond}
+use mathlib.Core.Option.{Option, none, some}
 use mathlib.Core.List.{List}
 use Prim.Native.Nat.{ℕ, _<_, suc, pred}
 use native.Mathlib.Omega.{arith}
 use lib.Dec.{ltb}
 use lib.ListN.{length}
-use Rattle.model.specs.Layout.{least}
 use Rattle.model.specs.Tree.{Entry, noEntry, entry}
 use Rattle.model.specs.Entries.{has, filed, removed, shut, gapBefore, keyFits, gap, back, forth, gapOf, replaced}
 use Rattle.model.specs.Write.{write}
-use Rattle.model.specs.Pool.{Pool, heldBy, gapBy, withWhole, freshOf, withCursor}
+use Rattle.model.specs.Pool.{Pool, heldBy, gapBy, withWhole, freshOf, withCursor, leastBy}
 use Rattle.model.specs.MapCalls.{file, strike, noRoom, crowded, putAt}
 use Rattle.model.specs.CursorCalls.{rewrite, nextOf, prevOf, strikeNext}
 use Rattle.model.proofs.Cases.{either, either-lt, either-zero}
@@ -21,6 +21,27 @@ use Rattle.model.proofs.Insert.{insert-held}
 use Rattle.model.proofs.Remove.{remove-held}
 use Rattle.model.proofs.Write.{write-held}
 use Rattle.model.proofs.Right.{Right, right-remove, right-write, right-put, right-cursor}
+
+-- ---- no call changes the geometry
+
+pub file-geometry : (e : Entry) (p : Pool) → file e p .geometry ≡ p .geometry
+unfolding file
+file-geometry e p = either (has (e .key) (heldBy p)) (λ y. rw y) (λ n. rw n)
+
+pub replace-geometry : (e : Entry) (p : Pool) → cond (has (e .key) (heldBy p)) (file e p) p .geometry ≡ p .geometry
+replace-geometry e p = either (has (e .key) (heldBy p)) (λ y. rw y (file-geometry e p)) (λ n. rw n)
+
+pub strike-geometry : (k : ℕ) (p : Pool) → strike k p .geometry ≡ p .geometry
+unfolding strike
+strike-geometry k p = either (has k (heldBy p)) (λ y. rw y) (λ n. rw n)
+
+pub rewrite-geometry : (e : Option Entry) (i x : ℕ) (p : Pool) → rewrite e i x p .geometry ≡ p .geometry
+rewrite-geometry none i x p = refl
+rewrite-geometry (some e) i x p = refl
+
+pub strike-next-geometry : (e : Option Entry) (p : Pool) → strikeNext e p .geometry ≡ p .geometry
+strike-next-geometry none p = refl
+strike-next-geometry (some e) p = refl
 
 -- ---- map and set
 
@@ -33,8 +54,8 @@ module _ (p : Pool) (r : Right p) where
   unfolding file filed
   file-held e =
       either (has (e .key) (heldBy p))
-      (λ y. rw y (write-held least (p .whole) (gapBefore (e .key) (heldBy p)) e (r .formed) (here (e .key) y .0)))
-      (λ n. rw n (insert-held least (freshOf p) (p .whole) (gapBefore (e .key) (heldBy p)) e (r .formed) (gap-le (λ x. ltb x (e .key)) (heldBy p))))
+      (λ y. rw y (write-held (leastBy p) (p .whole) (gapBefore (e .key) (heldBy p)) e (r .formed) (here (e .key) y .0)))
+      (λ n. rw n (insert-held (leastBy p) (freshOf p) (p .whole) (gapBefore (e .key) (heldBy p)) e (r .formed) (gap-le (λ x. ltb x (e .key)) (heldBy p))))
 
   pub replace-held : (e : Entry) → heldBy (cond (has (e .key) (heldBy p)) (file e p) p) ≡ replaced e (heldBy p)
   unfolding replaced filed
@@ -44,7 +65,7 @@ module _ (p : Pool) (r : Right p) where
   unfolding strike removed
   strike-held k =
       either (has k (heldBy p))
-      (λ y. rw y (remove-held least (p .whole) (gapBefore k (heldBy p)) (omega arith) (r .formed) (here k y .0)))
+      (λ y. rw y (remove-held (leastBy p) (p .whole) (gapBefore k (heldBy p)) (omega arith) (r .formed) (here k y .0)))
       (λ n. rw n)
 
   pub file-right : (k v : ℕ) → (p .kind ≡ 1 → v ≡ 0) → noRoom k p ≡ false → Right (file (entry k v) p)

@@ -6,14 +6,16 @@ use Prim.Native.Nat.{ℕ, _+_, _-_, _≤_, _<_}
 use native.Mathlib.Omega.{arith}
 use lib.ListN.{length, drop, take, List·getD-append, length-append, length-take, length-drop}
 use lib.Seq.{drop-at, drop-drop, getD-drop, getD-take}
-use Rattle.model.specs.Layout.{word, headWords, least, pageWords, firstWord}
-use Rattle.model.specs.PageMap.{mapOf}
-use Rattle.model.specs.Page.{pageOf}
+use Rattle.model.specs.Layout.{word, headWords, pageWords, firstWord}
+use Rattle.model.specs.Head.{geometryOf, leastOf}
+use Rattle.model.specs.PageMap.{mapAt}
+use Rattle.model.specs.Page.{pageAt, pageOf}
 use Rattle.model.specs.Entries.{shut}
 use Rattle.model.specs.Pool.{poolOf, withCursor}
 use Rattle.model.specs.Sound.{Sound}
 use Rattle.model.specs.Written.{Written}
 use Rattle.model.specs.PoolCalls.{copied}
+use Rattle.model.proofs.Lawful.{geometry-same}
 use Rattle.model.proofs.Standing.{standing-frame}
 use Rattle.model.proofs.Right.{right-shut, sound-right}
 use Rattle.model.proofs.Written.{written-sound, sound-written, written-pool}
@@ -52,14 +54,19 @@ module _ (w : List ℕ) (long : 8 ≤ length w) where
   copied-mid : (i : ℕ) → word (copied w) (5 + i) ≡ word (0 ∷ 0 ∷ 0 ∷ drop 8 w) i
   copied-mid i = sym (getD-drop 5 (copied w) i 0) ∙ ap (λ (l : List ℕ). word l i) copied-tail
 
+  pub copied-geometry : geometryOf (copied w) ≡ geometryOf w
+  copied-geometry = geometry-same (copied w) w (copied-low 0 (omega arith)) (copied-high 9 (omega arith))
+
 module _ (w : List ℕ) (s : Sound w) where
   copy-written : Written (copied w) (withCursor (poolOf w) shut)
-  unfolding mapOf pageOf
+  unfolding mapAt pageAt
   copy-written =
       let a = sound-written w s in
       let long : 8 ≤ length w = omega (arith, a .long) in
+      let same : geometryOf (copied w) ≡ geometryOf w = copied-geometry w long in
       let h = a .head in
       record {
+        geometry = same ∙ a .geometry;
         long = copied-length w long ∙ a .long;
         head = cc (
           copied-low w long 0 (omega arith),
@@ -73,10 +80,10 @@ module _ (w : List ℕ) (s : Sound w) where
           copied-high w long 8 (omega arith),
         );
         spare = λ i b l. copied-high w long i (omega arith) ∙ a .spare i b l;
-        bits = λ q. rw (copied-drop w long headWords (omega arith)) (a .bits q);
+        bits = λ q. rw (same, copied-drop w long headWords (omega arith)) (a .bits q);
         stands =
-            standing-frame least (pageOf w) (pageOf (copied w)) (poolOf w .whole .levels) (poolOf w .whole .tree)
-            (λ q l. ap (take pageWords) (sym (copied-drop w long (firstWord q) (omega arith)))) (a .stands);
+            rw (same, leastOf) (standing-frame (leastOf w) (pageOf w) (pageAt (geometryOf w) (copied w)) (poolOf w .whole .levels) (poolOf w .whole .tree)
+            (λ q l. ap (take (pageWords (geometryOf w))) (sym (copied-drop w long (firstWord (geometryOf w) q) (omega arith)))) (a .stands));
       }
 
   pub copy-sound : Sound (copied w)

@@ -9,20 +9,20 @@ use lib.Dec.{eqb}
 use lib.ListN.{length, drop, take}
 use borrow.Author.Tests.{leb-true, le-leb, eqb-true, eqb-false, eq-eqb, ne-eqb, not-true}
 use Rattle.model.specs.Lists.{tab, All, every}
-use Rattle.model.specs.Layout.{headWords, mostPages, mostLevels, least, mostEntries, firstWord, pagesIn, allowed, word, lengthTests}
-use Rattle.model.specs.Head.{countWord, rootWord, levelsWord, openWord, afterWord, kindWord, fits, headed, bothOrNeither, headTests}
+use Rattle.model.specs.Layout.{headWords, mostPages, mostLevels, mostEntries, firstWord, allowed, word, lengthTests}
+use Rattle.model.specs.Head.{geometryOf, leastOf, pageCount, countWord, rootWord, levelsWord, openWord, afterWord, kindWord, fits, headed, bothOrNeither, headTests}
 use Rattle.model.proofs.Lists.{all-append, all-right, every-all, every-true, every-append}
 
--- P, the number of pages, is `pagesIn (length w)`
+-- P, the number of pages, is `pageCount w`
 pub record HeadFacts (w : List ℕ) : Type 0 where
-  pub some : 1 ≤ pagesIn (length w)
-  pub most : pagesIn (length w) ≤ mostPages
-  pub long : length w ≡ firstWord (pagesIn (length w))
+  pub some : 1 ≤ pageCount w
+  pub most : pageCount w ≤ mostPages (geometryOf w)
+  pub long : length w ≡ firstWord (geometryOf w) (pageCount w)
   pub form : word w 0 ≡ 1
-  pub pages : word w 1 ≡ pagesIn (length w)
-  pub count : countWord w ≤ mostEntries least * pagesIn (length w)
-  pub root : rootWord w ≤ pagesIn (length w)
-  pub levels : levelsWord w ≤ mostLevels
+  pub pages : word w 1 ≡ pageCount w
+  pub count : countWord w ≤ mostEntries (leastOf w) * pageCount w
+  pub root : rootWord w ≤ pageCount w
+  pub levels : levelsWord w ≤ mostLevels (geometryOf w)
   pub opened : openWord w ≤ 1
   pub after : afterWord w ≤ 1
   pub kind : kindWord w ≤ 1
@@ -52,7 +52,7 @@ true-zeros (suc n) f h = (eq-eqb (f 0) 0 (h 0 (omega arith)), true-zeros n (λ k
 -- ---- the tests of the length and of the head
 
 abbrev tests : List ℕ → List Bool
-tests w = lengthTests (length w) ++ headTests (pagesIn (length w)) w
+tests w = lengthTests (geometryOf w) (length w) ++ headTests (geometryOf w) (pageCount w) w
 
 -- those of one number or two, and the rest
 abbrev wordTests : List ℕ → List Bool
@@ -63,7 +63,7 @@ otherTests w = drop 12 (tests w)
 
 headed-tests : (w : List ℕ) → every (tests w) ≡ headed w
 unfolding headed fits allowed
-headed-tests w = every-append (lengthTests (length w)) (headTests (pagesIn (length w)) w)
+headed-tests w = every-append (lengthTests (geometryOf w) (length w)) (headTests (geometryOf w) (pageCount w) w)
 
 pub head-facts : (w : List ℕ) → headed w ≡ true → HeadFacts w
 head-facts w e = facts (every-true (tests w) (headed-tests w ∙ e))

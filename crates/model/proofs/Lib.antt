@@ -2,9 +2,10 @@
 pub mod Cases
 pub mod Lists
 pub mod Sums
--- the page map, the bits of a word, and the head
+-- the page map, the bits of a word, geometries that are lawful, and the head
 pub mod PageMap
 pub mod Word
+pub mod Lawful
 pub mod Head
 -- the list model
 pub mod Entries

@@ -1,5 +1,5 @@
 -- The numbers of a tree: its pages, as many as walking meets; the fewest and most entries of so many pages; the fewest pages and entries of so many
--- levels. Over m, the fewest entries of a page that is not the root; with m = 4, a tree of at most 4,096 pages has at most 6 levels.
+-- levels. Over m, the fewest entries of a page that is not the root; in a lawful geometry a tree of at most so many pages has at most so many levels.
 -- Assumes nothing.
 use mathlib.Core.Path.{_≡_, refl, _∙_}
 use mathlib.Core.List.{List, [], _∷_}
@@ -7,8 +7,10 @@ use Prim.Native.Nat.{ℕ, zero, suc, pred, _+_, _*_, _^_, _≤_, _<_}
 use native.Mathlib.Nat.{pow-zero, pow-succ', pow-le-pow-right, mul-le-mul-left, mul-le-mul-right}
 use native.Mathlib.Omega.{arith}
 use lib.ListN.{length}
+use Rattle.model.specs.declared.Geometry.{Geometry}
 use Rattle.model.specs.Lists.{sum, sumTo, same}
-use Rattle.model.specs.Layout.{mostPages, mostLevels, least, mostEntries}
+use Rattle.model.specs.Layout.{mostPages, mostLevels, mostEntries}
+use Rattle.model.specs.Lawful.{Lawful}
 use Rattle.model.specs.Tree.{Tree, Whole, entries, size, times, Shaped, held, Formed, pagesBelow, pagesOf}
 use Rattle.model.proofs.Cases.{either-le, either-lt, same-self}
 use Rattle.model.proofs.Sums.{sumTo-none, sum-const, sum-times, sumTo-plus, sum-le, sumTo-same}
@@ -127,13 +129,14 @@ pub whole-most : (m : ℕ) (x : Whole) → Formed m x → length (held x) ≤ mo
 unfolding Formed held pagesOf
 whole-most m x s = entries-most m 1 (x .levels) (x .tree) s
 
--- 7 levels take 7,813 pages
-pub levels-most : (x : Whole) → Formed least x → pagesOf x ≤ mostPages → x .levels ≤ mostLevels
+-- one level more takes more pages than there may be: where m is 4, 7 levels take 7,813
+pub levels-most : (γ : Geometry) → Lawful γ → (x : Whole) → Formed (γ .least) x → pagesOf x ≤ mostPages γ → x .levels ≤ mostLevels γ
 unfolding Formed pagesOf
-levels-most x = go (x .levels) (x .tree)
+levels-most γ law x = go (x .levels) (x .tree)
   where
-    go : (h : ℕ) (t : Tree h) → Shaped least 1 h t → pagesBelow h t ≤ mostPages → h ≤ mostLevels
+    go : (h : ℕ) (t : Tree h) → Shaped (γ .least) 1 h t → pagesBelow h t ≤ mostPages γ → h ≤ mostLevels γ
     go zero t s b = omega arith
-    go (suc h) t s b = either-le (suc h) mostLevels (λ l. l)
-        (λ l. let six : mostLevels ≤ h = omega arith in
-        omega (arith, pages-least least h t s, fewest-pow least h, pow-le-pow-right {n = suc least} (omega arith) six))
+    go (suc h) t s b = either-le (suc h) (mostLevels γ) (λ l. l)
+        (λ l. let deep : mostLevels γ ≤ h = omega arith in
+        let wide : suc (2 * fewest (γ .least) h) ≤ mostPages γ = omega (arith, pages-least (γ .least) h t s) in
+        omega (arith, law .deep, mul-le-mul-left (γ .least) wide, fewest-pow (γ .least) h, pow-le-pow-right {n = suc (γ .least)} (omega arith) deep))

@@ -8,8 +8,8 @@ use Prim.Native.Nat.{ℕ, zero, suc, pred, min, _+_, _≤_, _<_}
 use native.Mathlib.Omega.{arith}
 use lib.ListN.{length}
 use Rattle.model.specs.Lists.{tab, sum, same}
-use Rattle.model.specs.Layout.{least, mostEntries}
-use Rattle.model.specs.Head.{countWord, rootWord, levelsWord}
+use Rattle.model.specs.Layout.{mostEntries}
+use Rattle.model.specs.Head.{leastOf, countWord, rootWord, levelsWord}
 use Rattle.model.specs.PageMap.{mapOf, bitAt}
 use Rattle.model.specs.Tree.{Tree, times, meets}
 use Rattle.model.specs.Page.{pageOf, countOf, heightOf, childIn, childrenOf, readTree, Heights}
@@ -106,20 +106,20 @@ module _ (w : List ℕ) (s : Sound w) where
   root-levels : min 1 (rootWord w) ≡ min 1 (levelsWord w)
   root-levels = let f = head-facts w (s .head) .rooted in either-eq (countWord w) 0 (λ z. omega (arith, f .0 z)) (λ n. omega (arith, f .1 (omega arith)))
 
-  met-bit : (p : ℕ) → (met least (pageOf w) p (levelsWord w) (pred (rootWord w)) ≡ bitAt (mapOf w) p) × (bitAt (mapOf w) p < 2)
+  met-bit : (p : ℕ) → (met (leastOf w) (pageOf w) p (levelsWord w) (pred (rootWord w)) ≡ bitAt (mapOf w) p) × (bitAt (mapOf w) p < 2)
   unfolding meets wholeOf
   met-bit p = (s .met p, bitAt-lt (mapOf w) p)
 
   pub reached-marked : (p : ℕ) (route : List ℕ) → Reached w route p → bitAt (mapOf w) p ≡ 1
-  reached-marked p route r = omega (arith, met-bit p, leads-met least (pageOf w) (levelsWord w) (omega (arith, root-levels)) (s .heights) (r .1))
+  reached-marked p route r = omega (arith, met-bit p, leads-met (leastOf w) (pageOf w) (levelsWord w) (omega (arith, root-levels)) (s .heights) (r .1))
 
   pub marked-reached : (p : ℕ) → bitAt (mapOf w) p ≡ 1 → (route : List ℕ) × Reached w route p
   marked-reached p e =
-      let r = met-leads least (pageOf w) (levelsWord w) (pred (rootWord w)) p (s .heights) (omega (arith, met-bit p)) in
+      let r = met-leads (leastOf w) (pageOf w) (levelsWord w) (pred (rootWord w)) p (s .heights) (omega (arith, met-bit p)) in
       (r .1, (omega (arith, root-levels), r .2))
 
   pub reached-once : (p : ℕ) (one other : List ℕ) → Reached w one p → Reached w other p → one ≡ other
-  reached-once p one other r t = leads-once least (pageOf w) (levelsWord w) (omega (arith, root-levels)) (s .heights) (omega (arith, met-bit p)) (r .1) (t .1)
+  reached-once p one other r t = leads-once (leastOf w) (pageOf w) (levelsWord w) (omega (arith, root-levels)) (s .heights) (omega (arith, met-bit p)) (r .1) (t .1)
 
   pub reached-level : (p : ℕ) (route : List ℕ) → Reached w route p → heightOf (pageOf w p) ≡ 0 → suc (length route) ≡ levelsWord w
-  reached-level p route r z = omega (arith, leads-met least (pageOf w) (levelsWord w) (omega (arith, root-levels)) (s .heights) (r .1))
+  reached-level p route r z = omega (arith, leads-met (leastOf w) (pageOf w) (levelsWord w) (omega (arith, root-levels)) (s .heights) (r .1))

@@ -9,8 +9,10 @@ use native.Mathlib.Omega.{arith}
 use lib.Dec.{leb}
 use lib.ListN.{length, set, take, drop, length-append, length-take, length-drop, length-set}
 use borrow.Author.Tests.{le-ltb, eq-eqb, ne-eqb, ltb-false}
+use Rattle.model.specs.declared.Geometry.{Geometry}
 use Rattle.model.specs.Lists.{All, del, ins}
-use Rattle.model.specs.Layout.{least, mostLevels, mostPages, mostEntries}
+use Rattle.model.specs.Layout.{mostPages, mostLevels, mostEntries}
+use Rattle.model.specs.Lawful.{Lawful}
 use Rattle.model.specs.Head.{openWord, afterWord, keyWord}
 use Rattle.model.specs.PageMap.{mapOf}
 use Rattle.model.specs.Tree.{meets, pagesOf, times, Formed, Rising, Shaped, held, entries, Entry, entry}
@@ -18,13 +20,14 @@ use Rattle.model.specs.Entries.{shut, gap, keyFits}
 use Rattle.model.specs.Insert.{needed}
 use Rattle.model.specs.Remove.{remove}
 use Rattle.model.specs.Write.{write}
-use Rattle.model.specs.Pool.{Pool, poolOf, cursorOf, freeOf, withCursor, heldBy, room, gapBy, withWhole, made, freshOf, wholeOf}
+use Rattle.model.specs.Pool.{Pool, poolOf, cursorOf, freeOf, withCursor, heldBy, room, gapBy, withWhole, made, freshOf, wholeOf, leastBy}
 use Rattle.model.specs.Sound.{Sound}
 use Rattle.model.specs.MapCalls.{crowded, putAt}
 use Rattle.model.proofs.Cases.{either-eq}
 use Rattle.model.proofs.Lists.{all-append, all-take, all-drop, all-set, length-ins}
 use Rattle.model.proofs.PageMap.{bitAt-lt, free-count, fresh-once, fresh-inside}
 use Rattle.model.proofs.Head.{head-facts}
+use Rattle.model.proofs.Lawful.{geometry-lawful}
 use Rattle.model.proofs.Entries.{keyAt, rising-del, gap-le, rising-set, rising-ins}
 use Rattle.model.proofs.Insert.{insert-held, insert-meets, insert-formed}
 use Rattle.model.proofs.Remove.{remove-held, remove-meets, remove-formed}
@@ -33,12 +36,13 @@ use Rattle.model.proofs.Numbers.{levels-most, pages-met, whole-bound, w
 use Rattle.model.proofs.Room.{room-enough}
 
 pub record Right (p : Pool) : Type 0 where
+  pub lawful : Lawful (p .geometry)
   pub some : 1 ≤ p .pages
-  pub most : p .pages ≤ mostPages
+  pub most : p .pages ≤ mostPages (p .geometry)
   pub kind : p .kind ≤ 1
   pub once : (q : ℕ) → meets q (p .whole) ≤ 1
   pub inside : (q : ℕ) → p .pages ≤ q → meets q (p .whole) ≡ 0
-  pub formed : Formed least (p .whole)
+  pub formed : Formed (leastBy p) (p .whole)
   pub rising : Rising (heldBy p)
   pub zeros : p .kind ≡ 1 → All (λ e. e .value ≡ 0) (heldBy p)
   pub within : gapBy p ≤ length (heldBy p)
@@ -51,6 +55,7 @@ unfolding poolOf cursorOf
 sound-right w s =
     let f = head-facts w (s .head) in
     record {
+      lawful = geometry-lawful w;
       some = f .some;
       most = f .most;
       kind = f .kind;
@@ -82,20 +87,20 @@ module _ (p : Pool) (r : Right p) where
         free-count (λ q. meets q (p .whole)) (p .pages) (r .once),
       )
 
-  pub right-levels : p .whole .levels ≤ mostLevels
-  right-levels = levels-most (p .whole) (r .formed) (omega (arith, right-pages, r .most))
+  pub right-levels : p .whole .levels ≤ mostLevels (p .geometry)
+  right-levels = levels-most (p .geometry) (r .lawful) (p .whole) (r .formed) (omega (arith, right-pages, r .most))
 
-  pub right-deep : 1 ≤ p .whole .levels → 2 * suc least ^ pred (p .whole .levels) ≤ suc (length (heldBy p))
-  right-deep = whole-bound least (p .whole) (r .formed)
+  pub right-deep : 1 ≤ p .whole .levels → 2 * suc (leastBy p) ^ pred (p .whole .levels) ≤ suc (length (heldBy p))
+  right-deep = whole-bound (leastBy p) (p .whole) (r .formed)
 
-  pub right-full : length (heldBy p) ≤ mostEntries least * pagesOf (p .whole)
-  right-full = whole-most least (p .whole) (r .formed)
+  pub right-full : length (heldBy p) ≤ mostEntries (leastBy p) * pagesOf (p .whole)
+  right-full = whole-most (leastBy p) (p .whole) (r .formed)
 
-  -- no insert is refused for room while n ≤ 4P
-  pub right-room : (g : ℕ) → g ≤ length (heldBy p) → length (heldBy p) ≤ least * p .pages → crowded g p ≡ false
+  -- no insert is refused for room while n ≤ mP
+  pub right-room : (g : ℕ) → g ≤ length (heldBy p) → length (heldBy p) ≤ leastBy p * p .pages → crowded g p ≡ false
   right-room g b n =
-      le-ltb (room p) (needed least (p .whole) g)
-      (omega (arith, room-enough least (p .pages) (p .whole) g (r .some) (r .formed) b n, right-pages))
+      le-ltb (room p) (needed (leastBy p) (p .whole) g)
+      (omega (arith, room-enough (leastBy p) (p .pages) (p .whole) g (r .some) (r .formed) b n, right-pages))
 
 -- ---- each change keeps it
 
@@ -104,16 +109,17 @@ module _ (p : Pool) (r : Right p) where
       → Right (putAt g (entry k v) p)
   unfolding freeOf
   right-put g k v b fit free zero =
-      let held-after : heldBy (putAt g (entry k v) p) ≡ ins g (entry k v) (heldBy p) = insert-held least (freshOf p) (p .whole) g (entry k v) (r .formed) b in
-      let enough : needed least (p .whole) g ≤ room p = ltb-false (room p) (needed least (p .whole) g) free in
-      let met = insert-meets least (freshOf p) (p .whole) g (entry k v) (r .formed) b in
+      let held-after : heldBy (putAt g (entry k v) p) ≡ ins g (entry k v) (heldBy p) = insert-held (leastBy p) (freshOf p) (p .whole) g (entry k v) (r .formed) b in
+      let enough : needed (leastBy p) (p .whole) g ≤ room p = ltb-false (room p) (needed (leastBy p) (p .whole) g) free in
+      let met = insert-meets (leastBy p) (freshOf p) (p .whole) g (entry k v) (r .formed) b in
       record {
+        lawful = r .lawful;
         some = r .some;
         most = r .most;
         kind = r .kind;
-        once = λ q. rw (met q) (fresh-once (λ q. meets q (p .whole)) (p .pages) (needed least (p .whole) g) q enough (r .once q));
-        inside = λ q h. rw (met q) (fresh-inside (λ q. meets q (p .whole)) (p .pages) (needed least (p .whole) g) q enough h (r .inside q h));
-        formed = insert-formed least (freshOf p) (p .whole) g (entry k v) (r .formed) b;
+        once = λ q. rw (met q) (fresh-once (λ q. meets q (p .whole)) (p .pages) (needed (leastBy p) (p .whole) g) q enough (r .once q));
+        inside = λ q h. rw (met q) (fresh-inside (λ q. meets q (p .whole)) (p .pages) (needed (leastBy p) (p .whole) g) q enough h (r .inside q h));
+        formed = insert-formed (leastBy p) (freshOf p) (p .whole) g (entry k v) (r .formed) b;
         rising = rw held-after (rising-ins k v g (heldBy p) (r .rising) b fit);
         zeros = λ s. rw held-after (all-splice-in s);
         within = rw held-after (omega (arith, length-ins g (entry k v) (heldBy p) b, r .within));
@@ -128,15 +134,16 @@ module _ (p : Pool) (r : Right p) where
   pub right-write : (g v : ℕ) → g < length (heldBy p) → (p .kind ≡ 1 → v ≡ 0) → Right (withWhole p (write (p .whole) g (entry (keyAt (heldBy p) g) v)))
   right-write g v b zero =
       let e : Entry = entry (keyAt (heldBy p) g) v in
-      let held-after : held (write (p .whole) g e) ≡ set (heldBy p) g e = write-held least (p .whole) g e (r .formed) b in
-      let met = write-meets least (p .whole) g e (r .formed) b in
+      let held-after : held (write (p .whole) g e) ≡ set (heldBy p) g e = write-held (leastBy p) (p .whole) g e (r .formed) b in
+      let met = write-meets (leastBy p) (p .whole) g e (r .formed) b in
       record {
+        lawful = r .lawful;
         some = r .some;
         most = r .most;
         kind = r .kind;
         once = λ q. rw (met q) (r .once q);
         inside = λ q h. rw (met q) (r .inside q h);
-        formed = write-formed least (p .whole) g e (r .formed) b;
+        formed = write-formed (leastBy p) (p .whole) g e (r .formed) b;
         rising = rw held-after (rising-set g e (heldBy p) (r .rising) refl);
         zeros = λ s. rw held-after (all-set (λ e. e .value ≡ 0) (heldBy p) g e (zero s) (r .zeros s));
         within = rw held-after (omega (arith, length-set (heldBy p) g e, r .within));
@@ -144,17 +151,18 @@ module _ (p : Pool) (r : Right p) where
       }
 
   -- an open cursor's gap is not after the entry that goes
-  pub right-remove : (g : ℕ) → g < length (heldBy p) → gapBy p ≤ g → Right (withWhole p (remove least (p .whole) g))
+  pub right-remove : (g : ℕ) → g < length (heldBy p) → gapBy p ≤ g → Right (withWhole p (remove (leastBy p) (p .whole) g))
   right-remove g b c =
-      let held-after : held (remove least (p .whole) g) ≡ del g (heldBy p) = remove-held least (p .whole) g (omega arith) (r .formed) b in
-      let met = remove-meets least (p .whole) g (omega arith) (r .formed) b in
+      let held-after : held (remove (leastBy p) (p .whole) g) ≡ del g (heldBy p) = remove-held (leastBy p) (p .whole) g (omega arith) (r .formed) b in
+      let met = remove-meets (leastBy p) (p .whole) g (omega arith) (r .formed) b in
       record {
+        lawful = r .lawful;
         some = r .some;
         most = r .most;
         kind = r .kind;
         once = λ q. omega (arith, met q, r .once q);
         inside = λ q h. omega (arith, met q, r .inside q h);
-        formed = remove-formed least (p .whole) g (omega arith) (r .formed) b;
+        formed = remove-formed (leastBy p) (p .whole) g (omega arith) (r .formed) b;
         rising = rw held-after (rising-del g (heldBy p) (r .rising));
         zeros = λ s. rw held-after
             (all-append (λ e. e .value ≡ 0) (take g (heldBy p)) (drop (suc g) (heldBy p)) (all-take (λ e. e .value ≡ 0) g (heldBy p) (r .zeros s))
@@ -165,6 +173,7 @@ module _ (p : Pool) (r : Right p) where
 
   pub right-cursor : (g : ℕ) → g ≤ length (heldBy p) → p .kind ≡ 0 → Right (withCursor p (gap g))
   right-cursor g b k = record {
+    lawful = r .lawful;
     some = r .some;
     most = r .most;
     kind = r .kind;
@@ -179,6 +188,7 @@ module _ (p : Pool) (r : Right p) where
 
   pub right-shut : Right (withCursor p shut)
   right-shut = record {
+    lawful = r .lawful;
     some = r .some;
     most = r .most;
     kind = r .kind;
@@ -191,9 +201,10 @@ module _ (p : Pool) (r : Right p) where
     closed = λ s. refl;
   }
 
-pub right-made : (P kind : ℕ) → 1 ≤ P → P ≤ mostPages → kind ≤ 1 → Right (made P kind)
+pub right-made : (γ : Geometry) → Lawful γ → (P kind : ℕ) → 1 ≤ P → P ≤ mostPages γ → kind ≤ 1 → Right (made γ P kind)
 unfolding meets times Formed Shaped held entries
-right-made P kind some most k = record {
+right-made γ law P kind some most k = record {
+  lawful = law;
   some = some;
   most = most;
   kind = k;

@@ -12,13 +12,13 @@ use lib.Dec.{eqb}
 use lib.ListN.{length, getD, set, length-map}
 use lib.Seq.{map-set-same}
 use borrow.Author.Tests.{lt-ltb, eq-eqb, ne-eqb}
+use Rattle.model.specs.declared.Geometry.{Geometry}
 use Rattle.model.specs.Lists.{ins, del}
-use Rattle.model.specs.Layout.{least}
 use Rattle.model.specs.Head.{headed, kindWord, openWord}
 use Rattle.model.specs.Tree.{Entry, entry, noEntry, Rising}
 use Rattle.model.specs.Bound.{boundOf, beforeLower, beforeUpper}
 use Rattle.model.specs.Entries.{has, lookup, filed, removed, gapOf, gapBefore, gap, next, prev, above, under, keyFits, back, valueOf}
-use Rattle.model.specs.Pool.{Pool, heldBy, freshOf, poolOf, withCursor}
+use Rattle.model.specs.Pool.{Pool, heldBy, freshOf, poolOf, withCursor, leastBy}
 use Rattle.model.specs.Sound.{Sound}
 use Rattle.model.specs.Refusal.{refusal, mapKind}
 use Rattle.model.specs.Call.{Call, Outcome, Meets, refused, answered, given, number}
@@ -191,7 +191,7 @@ rewritten w v s x i o {e} there-is a h =
     let r = right s in
     let there = shown s i a in
     let left : poolOf v ≡ rewrite (some e) i x (poolOf w) = h ∙ rw (← there-is) in
-    let written : heldBy (poolOf v) ≡ set (es s) i (entry (e .key) x) = rw left (write-held least (poolOf w .whole) i (entry (e .key) x) (r .formed) (a .0)) in (
+    let written : heldBy (poolOf v) ≡ set (es s) i (entry (e .key) x) = rw left (write-held (leastBy (poolOf w)) (poolOf w .whole) i (entry (e .key) x) (r .formed) (a .0)) in (
       rw (← there .key) (mutated-altered (view w) (view v) (e .key) (e .value) x .1 (there .value, λ j. rw written (lookup-write (es s) (r .rising) i a x j))),
       rw written (map-set-same (λ e. e .key) (es s) i (entry (e .key) x) noEntry (rw (a .1))),
       rw left,
@@ -270,7 +270,7 @@ module _ {w v : List ℕ} (s : Sound w) where
       let r = right s in
       let h = after-fits s k x .0 (meets .exact s) in
       let put : heldBy (poolOf v) ≡ ins (position w) (entry k x) (es s) =
-      rw (after s meets) (insert-held least (freshOf (poolOf w)) (poolOf w .whole) (position w) (entry k x) (r .formed) (r .within)) in
+      rw (after s meets) (insert-held (leastBy (poolOf w)) (freshOf (poolOf w)) (poolOf w .whole) (position w) (entry k x) (r .formed) (r .within)) in
       (true-there s k h, rw put (map-ins (λ e. e .key) (position w) (entry k x) (es s)), rw (after s meets), λ j. rw put (lookup-put k x (position w) (es s) (r .rising) (r .within) h j))
 
   -- the source's error
@@ -287,7 +287,7 @@ module _ {w v : List ℕ} (s : Sound w) where
       let h = told s meets in
       let a = found-some (es s) (position w) noEntry h in
       let left : poolOf v ≡ strikeNext (some e) (poolOf w) = after s meets ∙ rw (← h) in
-      let struck : heldBy (poolOf v) ≡ del (position w) (es s) = rw left (remove-held least (poolOf w .whole) (position w) (omega arith) (r .formed) (a .0)) in
+      let struck : heldBy (poolOf v) ≡ del (position w) (es s) = rw left (remove-held (leastBy (poolOf w)) (poolOf w .whole) (position w) (omega arith) (r .formed) (a .0)) in
       (next-shown s h, rw struck (map-del (λ e. e .key) (position w) (es s)), rw left, λ j. rw struck (lookup-strike (es s) (r .rising) (position w) a j))
 
   pub remove-next-end : Meets cursorRemoveNext w v (answered none) → (position w ≡ length (keysIn w)) × (v ≡ w)
@@ -305,7 +305,7 @@ module _ {w v : List ℕ} {g : ℕ} (s : Sound w) (open-there : poolOf w .cursor
       let q = meets .early 3 (rw (tests, s .head, gap-map w s open-there, gap-opened w s open-there)) in
       (q, meets .kept 4 q)
 
-  pub open-shuts-clear : {kind : ℕ} {r : Outcome (Unit {0})} → Makes (clearTests w) kind w v r → (r ≡ refused 4) × (v ≡ w)
+  pub open-shuts-clear : {γ : Geometry} {kind : ℕ} {r : Outcome (Unit {0})} → Makes (clearTests w) γ kind w v r → (r ≡ refused 4) × (v ≡ w)
   open-shuts-clear {r = r} makes =
       let q : r ≡ refused 4 = makes .exact ∙ rw (s .head, gap-opened w s open-there) in
       (q, makes .kept 4 q)

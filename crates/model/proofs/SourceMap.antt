@@ -12,6 +12,7 @@ use lib.Dec.{eqb, ltb}
 use lib.ListN.{length, getD, set, take, drop, take-append-drop, length-map}
 use lib.Seq.{split-at, set-split}
 use borrow.Author.Tests.{eq-eqb, ne-eqb}
+use Rattle.model.specs.declared.Geometry.{Geometry}
 use Rattle.model.specs.Lists.{All, del}
 use Rattle.model.specs.Head.{openWord}
 use Rattle.model.specs.Tree.{Entry, entry, noEntry, Rising, held, entries}
@@ -270,7 +271,7 @@ module _ (k : ℕ) (w : List ℕ) (a : Found) (s : Sound w) (seen : Meets (mapGe
 
 -- ---- make (the source's `new` and `default`) and clear, copy, count, is-empty: of a map or a set
 
-module _ (tests : List Test) (kind : ℕ) (w v : List ℕ) (m : Makes tests kind w v (answered tt)) where
+module _ (tests : List Test) (γ : Geometry) (kind : ℕ) (w v : List ℕ) (m : Makes tests γ kind w v (answered tt)) where
   pub make-view : (k : ℕ) → view v k ≡ none
   unfolding held entries lookup
   make-view k = rw (m .makes refl .1)

@@ -8,6 +8,7 @@ use mathlib.Core.Option.{Option, none, some}
 use mathlib.Core.List.{List}
 use Prim.Native.Nat.{ℕ}
 use lib.Dec.{eqb}
+use Rattle.model.specs.declared.Geometry.{Geometry}
 use Rattle.model.specs.Gap.{Found}
 use Rattle.model.specs.Pool.{poolOf}
 use Rattle.model.specs.Sound.{Sound}
@@ -66,8 +67,8 @@ module _ (k : ℕ) (w v : List ℕ) (b : Bool) (s : Sound w) (m : Meets (setRemo
 
 -- ---- make (the source's `new` and `default`) and clear, copy, is-empty
 
-pub make-member : (tests : List Test) (kind : ℕ) (w v : List ℕ) → Makes tests kind w v (answered tt) → (k : ℕ) → member v k ≡ false
-make-member tests kind w v m k = rw (member-view v k, make-view tests kind w v m k)
+pub make-member : (tests : List Test) (γ : Geometry) (kind : ℕ) (w v : List ℕ) → Makes tests γ kind w v (answered tt) → (k : ℕ) → member v k ≡ false
+make-member tests γ kind w v m k = rw (member-view v k, make-view tests γ kind w v m k)
 
 pub copy-member : (w old v : List ℕ) → Sound w → Copies w old v (answered tt) → (k : ℕ) → member v k ≡ member w k
 copy-member w old v s m k = rw (member-view v k, copy-view w old v s m .1 k, member-view w k)

@@ -6,14 +6,16 @@ use Prim.Native.Nat.{ℕ, suc, _+_, _<_}
 use native.Mathlib.Omega.{arith}
 use lib.ListN.{length, take, drop, getD, length-take, length-drop}
 use lib.Seq.{getD-take, getD-drop, ext-getD}
-use Rattle.model.specs.Layout.{least, headWords, mapWords, firstWord, pagesIn, word}
-use Rattle.model.specs.Head.{headed, kindWord, openWord}
-use Rattle.model.specs.PageMap.{mapOf}
+use Rattle.model.specs.Layout.{headWords, mapWords, today, firstWord, word}
+use Rattle.model.specs.declared.Geometry.{Geometry}
+use Rattle.model.specs.Head.{geometryOf, leastOf, headed, kindWord, openWord}
+use Rattle.model.proofs.Lawful.{geometry-same}
+use Rattle.model.specs.PageMap.{mapAt}
 use Rattle.model.specs.Tree.{Entry, meets}
-use Rattle.model.specs.Page.{pageOf}
+use Rattle.model.specs.Page.{pageAt, pageOf}
 use Rattle.model.specs.Bound.{Bound}
 use Rattle.model.specs.Entries.{gap, shut}
-use Rattle.model.specs.Pool.{Pool, poolOf, heldBy, gapBy, withCursor, made}
+use Rattle.model.specs.Pool.{Pool, poolOf, heldBy, gapBy, withCursor}
 use Rattle.model.specs.Sound.{Sound}
 use Rattle.model.specs.Written.{Written}
 use Rattle.model.specs.Alike.{Alike}
@@ -33,17 +35,23 @@ use Rattle.model.proofs.Agree.{alike-self, by-given, shortest-same, kep
 use Rattle.model.proofs.Written.{sound-written, written-sound, written-pool}
 
 module _ (w x : List ℕ) (s : Sound w) (k : Alike w x) where
-  front-word : (i : ℕ) → i < firstWord 0 → word x i ≡ word w i
-  front-word i l = sym (getD-take (firstWord 0) x i 0 l) ∙ ap (λ (f : List ℕ). getD f i 0) (sym (k .front)) ∙ getD-take (firstWord 0) w i 0 l
+  abbrev γ : Geometry
+  γ = geometryOf w
 
-  map-same : mapOf x ≡ mapOf w
-  unfolding mapOf
+  front-word : (i : ℕ) → i < firstWord γ 0 → word x i ≡ word w i
+  front-word i l = sym (getD-take (firstWord γ 0) x i 0 l) ∙ ap (λ (f : List ℕ). getD f i 0) (sym (k .front)) ∙ getD-take (firstWord γ 0) w i 0 l
+
+  pub alike-geometry : geometryOf x ≡ γ
+  alike-geometry = geometry-same x w (front-word 0 (omega arith)) (front-word 9 (omega arith))
+
+  map-same : mapAt γ x ≡ mapAt γ w
+  unfolding mapAt
   map-same =
-      ext-getD 0 (mapOf x) (mapOf w) (simp (length-take, length-drop, k .long))
+      ext-getD 0 (mapAt γ x) (mapAt γ w) (simp (length-take, length-drop, k .long))
       (λ i h.
-      let l : i < mapWords = omega (arith, simp length-take at h) in
-      getD-take mapWords (drop headWords x) i 0 l ∙ getD-drop headWords x i 0 ∙ front-word (headWords + i) (omega arith)
-      ∙ sym (getD-take mapWords (drop headWords w) i 0 l ∙ getD-drop headWords w i 0))
+      let l : i < mapWords γ = omega (arith, simp length-take at h) in
+      getD-take (mapWords γ) (drop headWords x) i 0 l ∙ getD-drop headWords x i 0 ∙ front-word (headWords + i) (omega arith)
+      ∙ sym (getD-take (mapWords γ) (drop headWords w) i 0 l ∙ getD-drop headWords w i 0))
 
   alike-written : Written x (poolOf w)
   unfolding meets
@@ -51,6 +59,7 @@ module _ (w x : List ℕ) (s : Sound w) (k : Alike w x) where
       let a = sound-written w s in
       let r = sound-right w s in
       record {
+        geometry = alike-geometry ∙ a .geometry;
         long = sym (k .long) ∙ a .long;
         head = cc (
           a .head,
@@ -65,10 +74,10 @@ module _ (w x : List ℕ) (s : Sound w) (k : Alike w x) where
           front-word 8 (omega arith),
         );
         spare = λ i b l. front-word i (omega arith) ∙ a .spare i b l;
-        bits = λ q. rw map-same (a .bits q);
+        bits = λ q. rw (alike-geometry, map-same) (a .bits q);
         stands =
-            standing-alike least (pageOf w) (pageOf x) (poolOf w .whole .levels) (poolOf w .whole .tree)
-            (λ q l. k .pages q (omega (arith, a .bits q, r .once q))) (a .stands);
+            rw (alike-geometry, leastOf) (standing-alike (leastOf w) (pageOf w) (pageAt γ x) (poolOf w .whole .levels) (poolOf w .whole .tree)
+            (λ q l. rw alike-geometry at (k .pages q (omega (arith, a .bits q, r .once q)))) (a .stands));
       }
 
   pub alike-sound : Sound x
@@ -158,8 +167,9 @@ plays-unread w x v u cs ds r s sw k l vs us a b =
     (a .early n e ∙ sym (b .early n f), rw (c .0, d .0) k, kept-same cs ds l (c .1) (d .1)))
 
 -- make and clear
-makes-unread : (tests : List ℕ → List Test) (kind : List ℕ → ℕ) → ((w x : List ℕ) → Sound w → Alike w x → (tests x ≡ tests w) × (kind x ≡ kind w)) → MakesUnread tests kind
-makes-unread tests kind head w x v u r s sw k vs us a b =
+makes-unread : (tests : List ℕ → List Test) (geometry : List ℕ → Geometry) (kind : List ℕ → ℕ)
+    → ((w x : List ℕ) → Sound w → Alike w x → (tests x ≡ tests w) × (geometry x ≡ geometry w) × (kind x ≡ kind w)) → MakesUnread tests geometry kind
+makes-unread tests geometry kind head w x v u r s sw k vs us a b =
     let h = head w x sw k in
     let given-same = b .exact ∙ ap (λ (ts : List Test). given (refusal ts) tt) (h .0) in (
       a .exact ∙ sym given-same,
@@ -167,20 +177,20 @@ makes-unread tests kind head w x v u r s sw k vs us a b =
           (λ y z.
           let c = a .makes y in
           let d = b .makes z in
-          alike v u vs us (c .0) (d .0) (c .1 ∙ ap₂ (λ (n : ℕ). made (pagesIn n)) (k .long) (sym (h .1)) ∙ sym (d .1)))
+          alike v u vs us (c .0) (d .0) (c .1 ∙ (rw (k .long, h .1, h .2)) ∙ sym (d .1)))
           (λ n y z. rw (a .kept n y, b .kept n z) k),
     )
 
-pub make-unread : (kind : ℕ) → MakesUnread (makeTests kind) (λ w. kind)
-make-unread kind = makes-unread (makeTests kind) (λ w. kind) (λ w x sw k. (rw (k .long), refl))
+pub make-unread : (kind : ℕ) → MakesUnread (makeTests kind) (λ w. today) (λ w. kind)
+make-unread kind = makes-unread (makeTests kind) (λ w. today) (λ w. kind) (λ w x sw k. (rw (k .long), refl, refl))
 
-pub clear-unread : MakesUnread clearTests kindWord
-clear-unread = makes-unread clearTests kindWord (λ w x sw k. let h = head-same w x sw k in (rw (h .0, h .2), h .1))
+pub clear-unread : MakesUnread clearTests geometryOf kindWord
+clear-unread = makes-unread clearTests geometryOf kindWord (λ w x sw k. let h = head-same w x sw k in (rw (h .0, h .2), alike-geometry w x sw k, h .1))
 
 pub copy-unread : CopiesUnread
 copy-unread w x destination v u r s sw k vs us a b =
     let sx = alike-sound w x sw k in
-    let tests : copyTests x destination ≡ copyTests w destination = rw (head-same w x sw k .0, ← k .long) in
+    let tests : copyTests x destination ≡ copyTests w destination = rw (head-same w x sw k .0, alike-geometry w x sw k, ← k .long) in
     let given-same = b .exact ∙ ap (λ (ts : List Test). given (refusal ts) tt) tests in
     let pools : poolOf (copied w) ≡ poolOf (copied x) = copy-pool w sw ∙ ap (λ (p : Pool). withCursor p shut) (sym (alike-pool w x sw k)) ∙ sym (copy-pool x sx) in (
       a .exact ∙ sym given-same,

@@ -5,22 +5,25 @@ use mathlib.Core.Path.{_≡_, sym, ap, _∙_, refl}
 use mathlib.Core.Bool.{cond, true}
 use mathlib.Core.List.{List}
 use Prim.Native.Nat.{ℕ, zero, suc, pred, _≤_, _<_}
+use native.Mathlib.Nat.{mul-le-mul-left}
 use native.Mathlib.Omega.{arith}
 use lib.Dec.{eqb}
 use lib.ListN.{length, getD}
 use borrow.Author.Tests.{eq-eqb, ne-eqb}
+use Rattle.model.specs.declared.Geometry.{Geometry}
 use Rattle.model.specs.Lists.{tab}
-use Rattle.model.specs.Layout.{least, word, pagesIn}
-use Rattle.model.specs.Head.{countWord, rootWord, levelsWord, openWord, afterWord, keyWord}
-use Rattle.model.specs.Tree.{Entry, held, Rising, Formed, Tree, meets, entries, times, Shaped, size}
+use Rattle.model.specs.Layout.{word, mostEntries}
+use Rattle.model.specs.Head.{leastOf, pageCount, countWord, rootWord, levelsWord, openWord, afterWord, keyWord}
+use Rattle.model.specs.Tree.{Entry, held, Rising, Formed, Tree, meets, entries, times, Shaped, size, pagesOf}
 use Rattle.model.specs.Page.{pageOf}
 use Rattle.model.specs.Standing.{Standing, rootOf}
 use Rattle.model.specs.Entries.{Cursor, shut, gap, gapAfter, has}
-use Rattle.model.specs.Pool.{Pool, heldBy, wholeOf, cursorOf, poolOf, gapIn}
+use Rattle.model.specs.Pool.{Pool, heldBy, wholeOf, cursorOf, poolOf, gapIn, leastBy}
 use Rattle.model.specs.Sound.{Sound}
 use Rattle.model.specs.Written.{openIn, headOf, Written, afterIn, keyIn}
 use Rattle.model.proofs.Cases.{either-eq, either-lt, same-self}
 use Rattle.model.proofs.Lists.{getD-tab}
+use Rattle.model.proofs.Lawful.{pages-of}
 use Rattle.model.proofs.Head.{HeadFacts, head-facts, head-fits}
 use Rattle.model.proofs.Entries.{has-key, gap-after-has, gap-after-entry, has-entry}
 use Rattle.model.proofs.Gap.{size-some}
@@ -52,21 +55,22 @@ module _ (w : List ℕ) (s : Sound w) where
   unfolding wholeOf
   root-said =
       either-eq (countWord w) 0
-      (λ z. let r = facts .rooted .0 z in read-root least (pageOf w) (levelsWord w) (rootWord w) (λ z. r .0) (λ l. omega arith))
-      (λ n. let r = facts .rooted .1 (omega arith) in read-root least (pageOf w) (levelsWord w) (rootWord w) (λ z. omega arith) (λ l. r .0))
+      (λ z. let r = facts .rooted .0 z in read-root (leastOf w) (pageOf w) (levelsWord w) (rootWord w) (λ z. r .0) (λ l. omega arith))
+      (λ n. let r = facts .rooted .1 (omega arith) in read-root (leastOf w) (pageOf w) (levelsWord w) (rootWord w) (λ z. omega arith) (λ l. r .0))
 
   head-said : tab 9 (word w) ≡ headOf (poolOf w)
   unfolding poolOf wholeOf
   head-said = cc (facts .form, facts .pages, s .count, root-said, cursor-said .0, cursor-said .1, cursor-said .2)
 
   -- the pool's tree stands in its pages
-  pool-standing : Standing least (pageOf w) (wholeOf w .levels) (wholeOf w .tree)
+  pool-standing : Standing (leastOf w) (pageOf w) (wholeOf w .levels) (wholeOf w .tree)
   unfolding wholeOf
-  pool-standing = read-standing least (pageOf w) (levelsWord w) (pred (rootWord w)) (s .heights)
+  pool-standing = read-standing (leastOf w) (pageOf w) (levelsWord w) (pred (rootWord w)) (s .heights)
 
   pub sound-written : Written w (poolOf w)
   unfolding poolOf
   sound-written = record {
+    geometry = refl;
     long = facts .long;
     head = head-said;
     spare = facts .spare;
@@ -113,8 +117,11 @@ root-there m zero t s = (λ z. (refl, refl), λ l. absurd (omega arith))
 root-there m (suc h) t s = (λ z. absurd (omega (arith, size-some m 1 h t (omega arith) s)), λ l. omega arith)
 
 module _ (w : List ℕ) (p : Pool) (r : Right p) (a : Written w p) where
-  pages-back : pagesIn (length w) ≡ p .pages
-  pages-back = let e = a .long in omega arith
+  pages-back : pageCount w ≡ p .pages
+  pages-back = rw (a .geometry) (pages-of (p .geometry) (r .lawful) (length w) (p .pages) (a .long))
+
+  least-back : leastOf w ≡ leastBy p
+  least-back = ap (λ (γ : Geometry). γ .least) (a .geometry)
 
   at-word : (i : ℕ) → i < 9 → word w i ≡ getD (headOf p) i 0
   at-word i l = sym (getD-tab 9 (word w) i 0 l) ∙ ap (λ (h : List ℕ). getD h i 0) (a .head)
@@ -124,7 +131,7 @@ module _ (w : List ℕ) (p : Pool) (r : Right p) (a : Written w p) where
   whole-back =
       let L = p .whole .levels in
       rw (at-word 4 (omega arith), at-word 3 (omega arith))
-      (ap (λ (t : Tree L). record { levels = L; tree = t }) (standing-read least 1 (pageOf w) L (p .whole .tree) (r .formed) (a .stands)))
+      (ap (λ (t : Tree L). record { levels = L; tree = t }) (standing-read (leastOf w) 1 (pageOf w) L (p .whole .tree) (rw least-back (r .formed)) (a .stands)))
 
   cursor-is : cursorOf w ≡ p .cursor
   unfolding cursorOf
@@ -135,7 +142,7 @@ module _ (w : List ℕ) (p : Pool) (r : Right p) (a : Written w p) where
 
   pub written-pool : poolOf w ≡ p
   unfolding poolOf
-  written-pool = rw (pages-back, at-word 8 (omega arith), whole-back, cursor-is)
+  written-pool = rw (pages-back, at-word 8 (omega arith), whole-back, cursor-is, a .geometry)
 
   cursor-words : CursorSaid (heldBy p) (p .cursor)
   cursor-words = cursor-says (heldBy p) (p .cursor) (r .rising) (r .within)
@@ -143,7 +150,7 @@ module _ (w : List ℕ) (p : Pool) (r : Right p) (a : Written w p) where
   facts-back : HeadFacts w
   unfolding meets held Formed
   facts-back =
-      let rooted = root-there least (p .whole .levels) (p .whole .tree) (r .formed) in
+      let rooted = root-there (leastBy p) (p .whole .levels) (p .whole .tree) (r .formed) in
       let n = at-word 2 (omega arith) in
       let root = at-word 3 (omega arith) in
       let levels = at-word 4 (omega arith) in
@@ -151,13 +158,15 @@ module _ (w : List ℕ) (p : Pool) (r : Right p) (a : Written w p) where
       let kind = at-word 8 (omega arith) in
       record {
         some = rw pages-back (r .some);
-        most = rw pages-back (r .most);
-        long = rw pages-back (a .long);
+        most = rw (pages-back, a .geometry) (r .most);
+        long = rw (pages-back, a .geometry) (a .long);
         form = at-word 0 (omega arith);
         pages = rw pages-back (at-word 1 (omega arith));
-        count = rw (pages-back, n) (omega (arith, right-full p r, right-pages p r));
+        count =
+            let few : pagesOf (p .whole) ≤ p .pages = omega (arith, right-pages p r) in
+            rw (pages-back, n, least-back) (omega (arith, right-full p r, mul-le-mul-left (mostEntries (leastBy p)) few));
         root = rw (pages-back, root) (root-inside (p .whole .levels) (p .whole .tree) (p .pages) (r .inside));
-        levels = rw levels (right-levels p r);
+        levels = rw (levels, a .geometry) (right-levels p r);
         opened = rw open-word (cursor-words .opened);
         after = rw (at-word 6 (omega arith)) (cursor-words .after);
         kind = rw kind (r .kind);
@@ -176,9 +185,8 @@ module _ (w : List ℕ) (p : Pool) (r : Right p) (a : Written w p) where
     head = head-fits w facts-back;
     met = λ q. rw whole-back (sym (a .bits q));
     past = λ q h. a .bits q ∙ r .inside q (rw pages-back at h);
-    heights =
-        rw (at-word 4 (omega arith), at-word 3 (omega arith)) (standing-heights least (pageOf w) (p .whole .levels) (p .whole .tree) (a .stands));
-    formed = rw whole-back (r .formed);
+    heights = rw (at-word 4 (omega arith), at-word 3 (omega arith)) (standing-heights (leastOf w) (pageOf w) (p .whole .levels) (p .whole .tree) (a .stands));
+    formed = rw (whole-back, least-back) (r .formed);
     rising = rw whole-back (r .rising);
     count = rw whole-back (sym (at-word 2 (omega arith)));
     values = λ k. rw whole-back (r .zeros (sym (at-word 8 (omega arith)) ∙ k));

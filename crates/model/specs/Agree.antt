@@ -5,6 +5,7 @@ use mathlib.Core.Path.{_≡_}
 use mathlib.Core.Bool.{Bool, true}
 use mathlib.Core.List.{List, [], _∷_}
 use Prim.Native.Nat.{ℕ, _≤_}
+use Rattle.model.specs.declared.Geometry.{Geometry}
 use Rattle.model.specs.Layout.{Words}
 use Rattle.model.specs.Bound.{boundOf}
 use Rattle.model.specs.Pool.{poolOf}
@@ -38,9 +39,9 @@ Determined {R} c of =
 
 -- ---- exact on any words
 
-abbrev pub MakesDetermined : {R : Type 0} → (List ℕ → List Test) → (List ℕ → ℕ) → (R → Outcome (Unit {0})) → Type 0
-MakesDetermined {R} tests kind of =
-    (w v u : List ℕ) (r s : R) → Words v → Words u → Makes (tests w) (kind w) w v (of r) → Makes (tests w) (kind w) w u (of s)
+abbrev pub MakesDetermined : {R : Type 0} → (List ℕ → List Test) → (List ℕ → Geometry) → (List ℕ → ℕ) → (R → Outcome (Unit {0})) → Type 0
+MakesDetermined {R} tests geometry kind of =
+    (w v u : List ℕ) (r s : R) → Words v → Words u → Makes (tests w) (geometry w) (kind w) w v (of r) → Makes (tests w) (geometry w) (kind w) w u (of s)
     → (r ≡ s) × Alike v u × ((n : ℕ) → of r ≡ refused n → v ≡ u)
 
 abbrev pub CopiesDetermined : {R : Type 0} → (R → Outcome (Unit {0})) → Type 0

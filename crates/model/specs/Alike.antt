@@ -5,7 +5,8 @@ use mathlib.Core.Path.{_≡_}
 use mathlib.Core.List.{List}
 use Prim.Native.Nat.{ℕ}
 use lib.ListN.{length, take}
-use Rattle.model.specs.Layout.{least, mostEntries, firstWord}
+use Rattle.model.specs.Layout.{mostEntries, firstWord}
+use Rattle.model.specs.Head.{geometryOf, leastOf}
 use Rattle.model.specs.PageMap.{mapOf, bitAt}
 use Rattle.model.specs.Page.{pageOf, heightOf, Holds, nodeOf}
 
@@ -15,5 +16,5 @@ AlikePage m a b = Holds (mostEntries m) (heightOf b) (nodeOf (mostEntries m) 0 b
 
 pub record Alike (w v : List ℕ) : Type 0 where
   pub long : length w ≡ length v
-  pub front : take (firstWord 0) w ≡ take (firstWord 0) v
-  pub pages : (p : ℕ) → bitAt (mapOf w) p ≡ 1 → AlikePage least (pageOf w p) (pageOf v p)
+  pub front : take (firstWord (geometryOf w) 0) w ≡ take (firstWord (geometryOf w) 0) v
+  pub pages : (p : ℕ) → bitAt (mapOf w) p ≡ 1 → AlikePage (leastOf w) (pageOf w p) (pageOf v p)

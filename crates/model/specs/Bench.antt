@@ -6,7 +6,7 @@ use mathlib.Core.Bool.{true, false}
 use mathlib.Core.Option.{none}
 use mathlib.Core.List.{List, [], _∷_, map}
 use Prim.Native.Nat.{ℕ}
-use Rattle.model.specs.Layout.{allowed, pagesIn, firstWord}
+use Rattle.model.specs.Layout.{today, allowed, pagesIn, firstWord}
 use Rattle.model.specs.Tree.{Entry, Tree, Whole, entry}
 use Rattle.model.specs.Entries.{gap}
 use Rattle.model.specs.Pool.{Pool, heldBy, freeOf, made, withCursor}
@@ -45,14 +45,14 @@ lateNumber c p = refusal (c .late p)
 
 -- entries 10, 20, 30, and the gap at g
 abbrev pub three : Pool
-three = insertAll (10 ∷ 20 ∷ 30 ∷ []) (made 1 mapKind)
+three = insertAll (10 ∷ 20 ∷ 30 ∷ []) (made today 1 mapKind)
 
 abbrev pub threeAt : ℕ → Pool
 threeAt g = withCursor three (gap g)
 
 -- ten rising keys in P pages
 abbrev pub rising : ℕ → List ℕ → Pool
-rising P ks = insertAll ks (made P mapKind)
+rising P ks = insertAll ks (made today P mapKind)
 
 abbrev pub nine : List ℕ
 nine = 1 ∷ 2 ∷ 3 ∷ 4 ∷ 5 ∷ 6 ∷ 7 ∷ 8 ∷ 9 ∷ []
@@ -89,8 +89,8 @@ pub record Table : Type 0 where
 
 -- "The pool": 128 words is the smallest, 8,192 words give P = 253; lengths 0, 96, 127 and 129 are refused, and so is P = 4,097
 pub record Lengths : Type 0 where
-  pub smallest : allowed 128 ≡ true
-  pub usual : allowed 8192 ≡ true
-  pub usual-pages : pagesIn 8192 ≡ 253
-  pub largest : allowed (firstWord 4096) ≡ true
-  pub refused : map allowed (0 ∷ 96 ∷ 127 ∷ 129 ∷ firstWord 4097 ∷ []) ≡ false ∷ false ∷ false ∷ false ∷ false ∷ []
+  pub smallest : allowed today 128 ≡ true
+  pub usual : allowed today 8192 ≡ true
+  pub usual-pages : pagesIn today 8192 ≡ 253
+  pub largest : allowed today (firstWord today 4096) ≡ true
+  pub refused : map (allowed today) (0 ∷ 96 ∷ 127 ∷ 129 ∷ firstWord today 4097 ∷ []) ≡ false ∷ false ∷ false ∷ false ∷ false ∷ []

@@ -5,13 +5,12 @@ use mathlib.Core.Bool.{not, Bool, false, true}
 use mathlib.Core.Option.{Option, none, some}
 use mathlib.Core.List.{List, [], _∷_}
 use Prim.Native.Nat.{ℕ, pred}
-use Rattle.model.specs.Layout.{least}
 use Rattle.model.specs.Tree.{Entry, entry}
 use Rattle.model.specs.Bound.{Bound, included, excluded, unbounded, boundOf, beforeLower, beforeUpper}
 use Rattle.model.specs.Entries.{gapOf, shut, gap, next, prev, keyFits, forth, back, valueOf}
 use Rattle.model.specs.Remove.{remove}
 use Rattle.model.specs.Write.{write}
-use Rattle.model.specs.Pool.{Pool, heldBy, gapBy, withWhole, withCursor}
+use Rattle.model.specs.Pool.{Pool, leastBy, heldBy, gapBy, withWhole, withCursor}
 use Rattle.model.specs.Refusal.{Test, _when_, mapKind, unfit, otherKind, badBound, noBound, opened, closed}
 use Rattle.model.specs.Call.{Call}
 use Rattle.model.specs.PoolCalls.{reads}
@@ -42,7 +41,7 @@ rewrite (some e) g v p = withWhole p (write (p .whole) g (entry (e .key) v))
 
 abbrev pub strikeNext : Option Entry → Pool → Pool
 strikeNext none p = p
-strikeNext (some e) p = withWhole p (remove least (p .whole) (gapBy p))
+strikeNext (some e) p = withWhole p (remove (leastBy p) (p .whole) (gapBy p))
 
 -- ---- the calls
 

@@ -6,8 +6,19 @@ use mathlib.Core.List.{List, [], _∷_, _++_, map}
 use Prim.Native.Nat.{ℕ, _+_, _*_, _-_}
 use lib.Dec.{leb, eqb}
 use lib.ListN.{length}
+use Rattle.model.specs.declared.Geometry.{Geometry}
 use Rattle.model.specs.Lists.{tab, every}
-use Rattle.model.specs.Layout.{headWords, mostLevels, least, mostEntries, pagesIn, allowed, word}
+use Rattle.model.specs.Layout.{headWords, mostLevels, mostEntries, today, pagesIn, allowed, word}
+
+-- the geometry that the head names: document 01 has one; its m; and P, by the length
+unfoldable pub geometryOf : List ℕ → Geometry
+geometryOf w = today
+
+abbrev pub leastOf : List ℕ → ℕ
+leastOf w = geometryOf w .least
+
+abbrev pub pageCount : List ℕ → ℕ
+pageCount w = pagesIn (geometryOf w) (length w)
 
 -- the number of entries; the root's page number plus 1; the number of levels
 abbrev pub countWord : List ℕ → ℕ
@@ -42,13 +53,13 @@ abbrev pub spareWords : List ℕ → List ℕ
 spareWords w = tab (headWords - 9) (λ i. word w (9 + i))
 
 -- of a head in a pool of P pages; a set's word 5 is 0, so the two are not both 1; words 2, 3 and 4 are all zero or all nonzero
-abbrev pub numberTests : ℕ → List ℕ → List Bool
-numberTests P w =
+abbrev pub numberTests : Geometry → ℕ → List ℕ → List Bool
+numberTests γ P w =
     eqb (word w 0) 1
     ∷ eqb (word w 1) P
-    ∷ leb (countWord w) (mostEntries least * P)
+    ∷ leb (countWord w) (mostEntries (γ .least) * P)
     ∷ leb (rootWord w) P
-    ∷ leb (levelsWord w) mostLevels
+    ∷ leb (levelsWord w) (mostLevels γ)
     ∷ leb (openWord w) 1
     ∷ leb (afterWord w) 1
     ∷ leb (kindWord w) 1
@@ -58,12 +69,12 @@ numberTests P w =
     ∷ []
 
 -- and words 9 to 31 are 0
-abbrev pub headTests : ℕ → List ℕ → List Bool
-headTests P w = numberTests P w ++ map (λ x. eqb x 0) (spareWords w)
+abbrev pub headTests : Geometry → ℕ → List ℕ → List Bool
+headTests γ P w = numberTests γ P w ++ map (λ x. eqb x 0) (spareWords w)
 
 unfoldable pub fits : List ℕ → Bool
-fits w = every (headTests (pagesIn (length w)) w)
+fits w = every (headTests (geometryOf w) (pageCount w) w)
 
 -- a length that is allowed and a head that fits
 unfoldable pub headed : List ℕ → Bool
-headed w = cond (allowed (length w)) (fits w) false
+headed w = cond (allowed (geometryOf w) (length w)) (fits w) false

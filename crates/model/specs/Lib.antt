@@ -7,6 +7,8 @@ pub mod PageMap
 pub mod Tree
 pub mod Page
 pub mod Standing
+-- what the laws ask of a geometry
+pub mod Lawful
 -- the list model, which is what the source speaks of
 pub mod Bound
 pub mod Entries

@@ -6,14 +6,13 @@ use mathlib.Core.Option.{Option}
 use mathlib.Core.List.{List, [], _∷_}
 use Prim.Native.Nat.{ℕ}
 use lib.Dec.{ltb}
-use Rattle.model.specs.Layout.{least}
 use Rattle.model.specs.Tree.{Entry, entry}
 use Rattle.model.specs.Entries.{has, lookup, gapBefore}
 use Rattle.model.specs.Gap.{Found, depth}
 use Rattle.model.specs.Insert.{insert, needed}
 use Rattle.model.specs.Remove.{remove}
 use Rattle.model.specs.Write.{write}
-use Rattle.model.specs.Pool.{Pool, heldBy, room, freshOf, withWhole}
+use Rattle.model.specs.Pool.{Pool, leastBy, heldBy, room, freshOf, withWhole}
 use Rattle.model.specs.Refusal.{Test, _when_, mapKind, unfit, otherKind, opened}
 use Rattle.model.specs.Call.{Call}
 use Rattle.model.specs.PoolCalls.{reads}
@@ -29,10 +28,10 @@ changeTests kind w = unfit w ∷ otherKind kind w ∷ opened w ∷ []
 
 -- entry e put at gap g; and whether the pages it needs are more than are free
 abbrev pub putAt : ℕ → Entry → Pool → Pool
-putAt g e p = withWhole p (insert least (freshOf p) (p .whole) g e)
+putAt g e p = withWhole p (insert (leastBy p) (freshOf p) (p .whole) g e)
 
 abbrev pub crowded : ℕ → Pool → Bool
-crowded g p = ltb (room p) (needed least (p .whole) g)
+crowded g p = ltb (room p) (needed (leastBy p) (p .whole) g)
 
 -- an entry filed: over the one that has its key, or put at the key's gap
 unfoldable pub file : Entry → Pool → Pool
@@ -45,7 +44,7 @@ unfoldable pub noRoom : ℕ → Pool → Bool
 noRoom k p = cond (has k (heldBy p)) false (crowded (gapBefore k (heldBy p)) p)
 
 unfoldable pub strike : ℕ → Pool → Pool
-strike k p = cond (has k (heldBy p)) (withWhole p (remove least (p .whole) (gapBefore k (heldBy p)))) p
+strike k p = cond (has k (heldBy p)) (withWhole p (remove (leastBy p) (p .whole) (gapBefore k (heldBy p)))) p
 
 -- the pages from the root to the page that holds the key, or all levels if it is absent
 unfoldable pub pagesRead : ℕ → Pool → ℕ

@@ -5,13 +5,18 @@ use mathlib.Core.Path.{_≡_}
 use mathlib.Core.List.{List, map}
 use Prim.Native.Nat.{ℕ, zero, suc, _+_, _*_, _<_}
 use lib.ListN.{take, drop}
+use Rattle.model.specs.declared.Geometry.{Geometry}
 use Rattle.model.specs.Lists.{tab, All}
 use Rattle.model.specs.Layout.{pageWords, mostEntries, firstWord, word}
+use Rattle.model.specs.Head.{geometryOf}
 use Rattle.model.specs.Tree.{Entry, Node, Tree}
 
--- the words of page p
-unfoldable pub pageOf : List ℕ → ℕ → List ℕ
-pageOf w p = take pageWords (drop (firstWord p) w)
+-- the words of page p: in a geometry; in the one that the head names
+unfoldable pub pageAt : Geometry → List ℕ → ℕ → List ℕ
+pageAt γ w p = take (pageWords γ) (drop (firstWord γ p) w)
+
+abbrev pub pageOf : List ℕ → ℕ → List ℕ
+pageOf w = pageAt (geometryOf w) w
 
 abbrev pub countOf : List ℕ → ℕ
 countOf page = word page 0

@@ -6,12 +6,17 @@ use mathlib.Core.List.{List, [], _∷_}
 use Prim.Native.Nat.{ℕ, zero, suc, _*_, _/_, _%_, _^_}
 use lib.Dec.{eqb}
 use lib.ListN.{length, take, drop, getD}
+use Rattle.model.specs.declared.Geometry.{Geometry}
 use Rattle.model.specs.Lists.{sumTo}
 use Rattle.model.specs.Layout.{headWords, mapWords}
+use Rattle.model.specs.Head.{geometryOf}
 
--- the map's words
-unfoldable pub mapOf : List ℕ → List ℕ
-mapOf w = take mapWords (drop headWords w)
+-- the map's words: in a geometry; in the one that the head names
+unfoldable pub mapAt : Geometry → List ℕ → List ℕ
+mapAt γ w = take (mapWords γ) (drop headWords w)
+
+abbrev pub mapOf : List ℕ → List ℕ
+mapOf w = mapAt (geometryOf w) w
 
 -- bit b of x: 0 or 1
 unfoldable pub bit : ℕ → ℕ → ℕ

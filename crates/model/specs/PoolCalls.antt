@@ -7,8 +7,9 @@ use mathlib.Core.List.{List, [], _∷_, _++_}
 use Prim.Native.Nat.{ℕ}
 use lib.Dec.{leb, eqb}
 use lib.ListN.{length, take, drop}
-use Rattle.model.specs.Layout.{allowed, pagesIn}
-use Rattle.model.specs.Head.{openWord, headed}
+use Rattle.model.specs.declared.Geometry.{Geometry}
+use Rattle.model.specs.Layout.{today, pagesIn, allowed}
+use Rattle.model.specs.Head.{geometryOf, openWord, headed}
 use Rattle.model.specs.Pool.{Pool, heldBy, made, poolOf}
 use Rattle.model.specs.Sound.{Sound}
 use Rattle.model.specs.Refusal.{Test, _when_, unfit, opened, refusal}
@@ -16,17 +17,17 @@ use Rattle.model.specs.Call.{Call, Outcome, given, refused, answered}
 
 -- make takes any words; clear asks for a head that fits, and keeps its kind
 abbrev pub makeTests : ℕ → List ℕ → List Test
-makeTests kind w = 1 when not (allowed (length w)) ∷ 2 when leb 2 kind ∷ []
+makeTests kind w = 1 when not (allowed today (length w)) ∷ 2 when leb 2 kind ∷ []
 
 abbrev pub clearTests : List ℕ → List Test
 clearTests w = unfit w ∷ opened w ∷ []
 
--- both leave a pool just made, whatever the words were
-pub record Makes (tests : List Test) (kind : ℕ) (w v : List ℕ) (r : Outcome (Unit {0})) : Type 0 where
+-- both leave a pool just made, of geometry γ, whatever the words were
+pub record Makes (tests : List Test) (γ : Geometry) (kind : ℕ) (w v : List ℕ) (r : Outcome (Unit {0})) : Type 0 where
   pub long : length v ≡ length w
   pub exact : r ≡ given (refusal tests) tt
   pub kept : (n : ℕ) → r ≡ refused n → v ≡ w
-  pub makes : r ≡ answered tt → Sound v × (poolOf v ≡ made (pagesIn (length w)) kind)
+  pub makes : r ≡ answered tt → Sound v × (poolOf v ≡ made γ (pagesIn γ (length w)) kind)
 
 -- what a call that only reads leaves
 abbrev pub reads : {A : Type 0} → (List ℕ → List Test) → (Pool → A) → Call A
@@ -41,7 +42,7 @@ poolIsEmpty = reads (λ w. unfit w ∷ []) (λ p. eqb (length (heldBy p)) 0)
 -- copy: the source's length or head, or the destination's length; lengths that differ; the destination's cursor, where its head fits
 abbrev pub copyTests : (source destination : List ℕ) → List Test
 copyTests w v =
-    1 when not (headed w && allowed (length v))
+    1 when not (headed w && allowed (geometryOf w) (length v))
     ∷ 8 when not (eqb (length w) (length v))
     ∷ 4 when (headed v && eqb (openWord v) 1)
     ∷ []

@@ -2,8 +2,8 @@
 -- Assumes nothing: these are definitions.
 use mathlib.Core.List.{List, [], _∷_}
 use Prim.Native.Nat.{ℕ, pred, _≤_}
-use Rattle.model.specs.Layout.{least, mostEntries}
-use Rattle.model.specs.Head.{rootWord}
+use Rattle.model.specs.Layout.{mostEntries}
+use Rattle.model.specs.Head.{leastOf, rootWord}
 use Rattle.model.specs.Page.{pageOf, countOf, heightOf, childIn}
 
 -- the route leads from page p to page q: a page of height above 0 with c entries has c + 1 children
@@ -13,4 +13,4 @@ pub data Leads (m : ℕ) (pages : ℕ → List ℕ) : ℕ → List ℕ → ℕ �
       → Leads m pages p (i ∷ route) q
 
 abbrev pub Reached : List ℕ → List ℕ → ℕ → Type 0
-Reached w route p = (1 ≤ rootWord w) × Leads least (pageOf w) (pred (rootWord w)) route p
+Reached w route p = (1 ≤ rootWord w) × Leads (leastOf w) (pageOf w) (pred (rootWord w)) route p

@@ -7,8 +7,9 @@ use mathlib.Core.Option.{Option, none, some}
 use mathlib.Core.List.{List}
 use Prim.Native.Nat.{ℕ, suc, pred, _+_, _*_, _^_, _≤_}
 use lib.ListN.{length}
-use Rattle.model.specs.Layout.{firstWord}
-use Rattle.model.specs.Head.{kindWord, levelsWord}
+use Rattle.model.specs.declared.Geometry.{Geometry}
+use Rattle.model.specs.Layout.{today, firstWord}
+use Rattle.model.specs.Head.{geometryOf, kindWord, levelsWord}
 use Rattle.model.specs.PageMap.{mapOf, bitAt}
 use Rattle.model.specs.Tree.{Entry}
 use Rattle.model.specs.Page.{pageOf, heightOf}
@@ -52,8 +53,8 @@ isDone (answered a) = 1
 
 pub data Use (w : List ℕ) : List ℕ → ℕ → ℕ → Type 0 where
   -- calls that begin anew (below), where they are refused
-  byMake : {v : List ℕ} (kind n : ℕ) → Makes (makeTests kind w) kind w v (refused n) → Use w v 0 0
-  byClear : {v : List ℕ} (n : ℕ) → Makes (clearTests w) (kindWord w) w v (refused n) → Use w v 0 0
+  byMake : {v : List ℕ} (kind n : ℕ) → Makes (makeTests kind w) today kind w v (refused n) → Use w v 0 0
+  byClear : {v : List ℕ} (n : ℕ) → Makes (clearTests w) (geometryOf w) (kindWord w) w v (refused n) → Use w v 0 0
   byCopyIn : {v : List ℕ} (source : List ℕ) (n : ℕ) → Copies source w v (refused n) → Use w v 0 0
   -- a pool of either kind; check, copying out and lists are lent the words to be read, so they stay
   byCopyOut : (destination after : List ℕ) (r : Outcome (Unit {0})) → Copies w destination after r → Use w w 0 0
@@ -94,19 +95,21 @@ pub data Use (w : List ℕ) : List ℕ → ℕ → ℕ → Type 0 where
 abbrev pub numberIn : List ℕ → ℕ
 numberIn w = length (heldBy (poolOf w))
 
--- it begins, and begins again, where make or clear is accepted, whatever the words were, or a copy of a sound pool is taken in, whose entries count as accepted
-pub data Season (P : ℕ) : ℕ → ℕ → List ℕ → Type 0 where
-  afterMake : {w v : List ℕ} (kind : ℕ) → length w ≡ firstWord P → Makes (makeTests kind w) kind w v (answered tt) → Season P 0 0 v
-  afterClear : {w v : List ℕ} → length w ≡ firstWord P → Makes (clearTests w) (kindWord w) w v (answered tt) → Season P 0 0 v
-  afterCopy : {w v : List ℕ} (source : List ℕ) → length w ≡ firstWord P → Sound source → Copies source w v (answered tt) → Season P (numberIn source) 0 v
-  afterUse : {w v : List ℕ} {accepted removed a r : ℕ} → Season P accepted removed w → Use w v a r → Season P (accepted + a) (removed + r) v
+-- of a pool of geometry γ and P pages. It begins, and begins again, where make or clear is accepted, whatever the words
+-- were, or a copy of a sound pool is taken in, which brings its geometry, and whose entries count as accepted
+pub data Season (γ : Geometry) (P : ℕ) : ℕ → ℕ → List ℕ → Type 0 where
+  afterMake : {w v : List ℕ} (kind : ℕ) → γ ≡ today → length w ≡ firstWord γ P → Makes (makeTests kind w) γ kind w v (answered tt) → Season γ P 0 0 v
+  afterClear : {w v : List ℕ} → geometryOf w ≡ γ → length w ≡ firstWord γ P → Makes (clearTests w) γ (kindWord w) w v (answered tt) → Season γ P 0 0 v
+  afterCopy : {w v : List ℕ} (source : List ℕ) → geometryOf source ≡ γ → length w ≡ firstWord γ P → Sound source → Copies source w v (answered tt) → Season γ P (numberIn source) 0 v
+  afterUse : {w v : List ℕ} {accepted removed a r : ℕ} → Season γ P accepted removed w → Use w v a r → Season γ P (accepted + a) (removed + r) v
 
 -- ---- what holds at each moment, in the words of demand 3: n entries on h levels
 
-pub record Demand (P accepted removed : ℕ) (w : List ℕ) : Type 0 where
+pub record Demand (γ : Geometry) (P accepted removed : ℕ) (w : List ℕ) : Type 0 where
   pub sound : Sound w
-  -- a pool of P pages
-  pub pages : length w ≡ firstWord P
+  -- a pool of that geometry and P pages
+  pub geometry : geometryOf w ≡ γ
+  pub pages : length w ≡ firstWord γ P
   -- the entries number those accepted less those removed
   pub entries : numberIn w + removed ≡ accepted
   -- pages reached from the root are each reached once
@@ -116,8 +119,8 @@ pub record Demand (P accepted removed : ℕ) (w : List ℕ) : Type 0 where
   pub reached : (p : ℕ) → bitAt (mapOf w) p ≡ 1 → (route : List ℕ) × Reached w route p
   -- all leaves equally deep
   pub level : (p : ℕ) (route : List ℕ) → Reached w route p → heightOf (pageOf w p) ≡ 0 → suc (length route) ≡ levelsWord w
-  -- 2·5^(h−1) ≤ n+1, with n ≥ 1
-  pub deep : 1 ≤ numberIn w → 2 * 5 ^ pred (levelsWord w) ≤ numberIn w + 1
-  -- no insert is refused for room while n ≤ 4P
-  pub room : numberIn w ≤ 4 * P → (k x : ℕ) (v : List ℕ)
+  -- 2·(m+1)^(h−1) ≤ n+1, with n ≥ 1: 2·5^(h−1), where m is 4
+  pub deep : 1 ≤ numberIn w → 2 * suc (γ .least) ^ pred (levelsWord w) ≤ numberIn w + 1
+  -- no insert is refused for room while n ≤ mP: 4P
+  pub room : numberIn w ≤ γ .least * P → (k x : ℕ) (v : List ℕ)
       → (Meets (mapInsert k x) w v (refused 7) → ⊥) × (Meets (setInsert k) w v (refused 7) → ⊥) × (Meets (cursorInsertAfter k x) w v (refused 7) → ⊥)

@@ -7,8 +7,7 @@ use mathlib.Core.List.{List}
 use Prim.Native.Nat.{ℕ, _≤_, pred}
 use lib.ListN.{length}
 use Rattle.model.specs.Lists.{All}
-use Rattle.model.specs.Layout.{least, pagesIn}
-use Rattle.model.specs.Head.{countWord, rootWord, levelsWord, openWord, afterWord, keyWord, kindWord, headed}
+use Rattle.model.specs.Head.{leastOf, pageCount, countWord, rootWord, levelsWord, openWord, afterWord, keyWord, kindWord, headed}
 use Rattle.model.specs.PageMap.{mapOf, bitAt}
 use Rattle.model.specs.Tree.{held, meets, Rising, Formed}
 use Rattle.model.specs.Page.{pageOf, Heights}
@@ -20,11 +19,11 @@ pub record Sound (w : List ℕ) : Type 0 where
   pub head : headed w ≡ true
   -- walking from the root meets each page once; the pages met are exactly the bits set, and bits at and past P are 0
   pub met : (p : ℕ) → meets p (wholeOf w) ≡ bitAt (mapOf w) p
-  pub past : (p : ℕ) → pagesIn (length w) ≤ p → bitAt (mapOf w) p ≡ 0
+  pub past : (p : ℕ) → pageCount w ≤ p → bitAt (mapOf w) p ≡ 0
   -- a child's height is one less than its parent's and the root's is levels - 1
-  pub heights : Heights least (pageOf w) (levelsWord w) (pred (rootWord w))
+  pub heights : Heights (leastOf w) (pageOf w) (levelsWord w) (pred (rootWord w))
   -- the root holds 1 to 9 entries, every other page 4 to 9
-  pub formed : Formed least (wholeOf w)
+  pub formed : Formed (leastOf w) (wholeOf w)
   -- keys in walking order strictly rise
   pub rising : Rising (held (wholeOf w))
   -- the entries met number word 2

@@ -3,6 +3,7 @@
 use mathlib.Core.Path.{_≡_}
 use mathlib.Core.List.{List}
 use Prim.Native.Nat.{ℕ}
+use Rattle.model.specs.declared.Geometry.{Geometry}
 use Rattle.model.specs.Layout.{Words}
 use Rattle.model.specs.Bound.{boundOf}
 use Rattle.model.specs.Sound.{Sound}
@@ -31,9 +32,9 @@ PlaysUnread =
     → (r ≡ s) × Alike v u × LeftSame cs ds
 
 -- make and clear, copy: of its source
-abbrev pub MakesUnread : (List ℕ → List Test) → (List ℕ → ℕ) → Type 0
-MakesUnread tests kind =
-    (w x v u : List ℕ) (r s : Outcome (Unit {0})) → Sound w → Alike w x → Words v → Words u → Makes (tests w) (kind w) w v r → Makes (tests x) (kind x) x u s
+abbrev pub MakesUnread : (List ℕ → List Test) → (List ℕ → Geometry) → (List ℕ → ℕ) → Type 0
+MakesUnread tests geometry kind =
+    (w x v u : List ℕ) (r s : Outcome (Unit {0})) → Sound w → Alike w x → Words v → Words u → Makes (tests w) (geometry w) (kind w) w v r → Makes (tests x) (geometry x) (kind x) x u s
     → (r ≡ s) × Alike v u
 
 abbrev pub CopiesUnread : Type 0

@@ -6,7 +6,8 @@ use mathlib.Core.List.{List, [], _∷_}
 use Prim.Native.Nat.{ℕ, zero, suc, _≤_, _<_}
 use lib.ListN.{length, getD}
 use Rattle.model.specs.Lists.{tab}
-use Rattle.model.specs.Layout.{headWords, least, firstWord, word}
+use Rattle.model.specs.Layout.{headWords, firstWord, word}
+use Rattle.model.specs.Head.{geometryOf, leastOf}
 use Rattle.model.specs.PageMap.{mapOf, bitAt}
 use Rattle.model.specs.Tree.{Entry, noEntry, meets}
 use Rattle.model.specs.Page.{pageOf}
@@ -38,8 +39,9 @@ headOf p =
     ∷ openIn (p .cursor) ∷ afterIn (p .cursor) ∷ keyIn (heldBy p) (p .cursor) ∷ p .kind ∷ []
 
 pub record Written (w : List ℕ) (p : Pool) : Type 0 where
-  pub long : length w ≡ firstWord (p .pages)
+  pub geometry : geometryOf w ≡ p .geometry
+  pub long : length w ≡ firstWord (p .geometry) (p .pages)
   pub head : tab 9 (word w) ≡ headOf p
   pub spare : (i : ℕ) → 9 ≤ i → i < headWords → word w i ≡ 0
   pub bits : (q : ℕ) → bitAt (mapOf w) q ≡ meets q (p .whole)
-  pub stands : Standing least (pageOf w) (p .whole .levels) (p .whole .tree)
+  pub stands : Standing (leastOf w) (pageOf w) (p .whole .levels) (p .whole .tree)

@@ -1,6 +1,7 @@
 // Exported, for a pool of either kind: make, clear, count, is-empty, copy, check. Names, arguments and words of `out` are those of include/moorpontoon.h.
 ghost use mathlib.Core.Path.{_≡_};
-ghost use Rattle.model.specs.Head.{kindWord};
+ghost use Rattle.model.specs.Layout.{today};
+ghost use Rattle.model.specs.Head.{geometryOf, kindWord};
 ghost use Rattle.model.specs.Call.{Meets};
 ghost use Rattle.model.specs.PoolCalls.{Makes, makeTests, clearTests, Copies, poolCount, poolIsEmpty};
 ghost use Rattle.moorpontoon.specs.Words.{nothing, amount, whether};
@@ -13,7 +14,7 @@ use map::pool;
 // A new pool of a kind, in any words of a length that is allowed.
 #[no_mangle]
 pub extern "C" fn mp_make(pool: &mut [u64], kind: u64, out: &mut [u64]) -> u64
-    ensures { λ n. ⌜ Exported nothing (Makes (makeTests kind (now (pool .entry))) kind (now (pool .entry)) (now (pool .exit))) (now (pool .exit) ≡ now (pool .entry)) (now (out .entry)) (now (out .exit)) n ⌝ }
+    ensures { λ n. ⌜ Exported nothing (Makes (makeTests kind (now (pool .entry))) today kind (now (pool .entry)) (now (pool .exit))) (now (pool .exit) ≡ now (pool .entry)) (now (out .entry)) (now (out .exit)) n ⌝ }
 {
     if out.len() < OUT {
         return SHORT;
@@ -24,7 +25,7 @@ pub extern "C" fn mp_make(pool: &mut [u64], kind: u64, out: &mut [u64]) -> u64
 // The same pool with no entry.
 #[no_mangle]
 pub extern "C" fn mp_clear(pool: &mut [u64], out: &mut [u64]) -> u64
-    ensures { λ n. ⌜ Exported nothing (Makes (clearTests (now (pool .entry))) (kindWord (now (pool .entry))) (now (pool .entry)) (now (pool .exit))) (now (pool .exit) ≡ now (pool .entry)) (now (out .entry)) (now (out .exit)) n ⌝ }
+    ensures { λ n. ⌜ Exported nothing (Makes (clearTests (now (pool .entry))) (geometryOf (now (pool .entry))) (kindWord (now (pool .entry))) (now (pool .entry)) (now (pool .exit))) (now (pool .exit) ≡ now (pool .entry)) (now (out .entry)) (now (out .exit)) n ⌝ }
 {
     if out.len() < OUT {
         return SHORT;

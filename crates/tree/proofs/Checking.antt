@@ -8,21 +8,21 @@ use mathlib.Core.List.{List, [], _∷_}
 use Prim.Native.Nat.{ℕ, zero, suc, pred, _+_, _-_, _*_, _≤_, _<_}
 use native.Mathlib.Omega.{arith}
 use lib.Dec.{eqb}
-use lib.ListN.{length, length-take, length-drop}
+use lib.ListN.{length}
 use borrow.Author.Tests.{eqb-true, eq-eqb}
 use Rattle.model.specs.Lists.{tab, All, sum, same}
-use Rattle.model.specs.Layout.{mostLevels, least, firstWord, pagesIn, word}
-use Rattle.model.specs.Head.{countWord, rootWord, levelsWord, openWord, afterWord, keyWord, headed}
-use Rattle.model.specs.PageMap.{mapOf, bitAt, countBits}
+use Rattle.model.specs.Layout.{mostLevels, pagesIn, word, today}
+use Rattle.model.specs.Head.{countWord, rootWord, levelsWord, openWord, afterWord, keyWord, headed, geometryOf}
+use Rattle.model.specs.PageMap.{bitAt, countBits}
 use Rattle.model.specs.Tree.{Entry, Tree, weave, entries, times, Rising, Shaped, pagesBelow, pagesOf, meets, held, Formed}
-use Rattle.model.specs.Page.{pageOf, countOf, keyPlace, entryIn, entriesOf}
+use Rattle.model.specs.Page.{countOf, keyPlace, entryIn, entriesOf}
 use Rattle.model.specs.Standing.{Standing}
 use Rattle.model.specs.Entries.{has, lookup}
 use Rattle.model.specs.Gap.{Found, find}
 use Rattle.model.specs.Pool.{wholeOf, poolOf}
 use Rattle.model.specs.Sound.{Sound}
 use Rattle.model.specs.PoolCalls.{Checks}
-use Rattle.lend.specs.Pages.{most, Inside}
+use Rattle.lend.specs.Pages.{least, most, Inside, pageIn, mapIn}
 use Rattle.tree.specs.declared.check.Tally.{Tally}
 use Rattle.tree.specs.declared.check.Tally.the-variants as tally
 use Rattle.tree.specs.declared.search.Got.{Got}
@@ -42,7 +42,8 @@ use Rattle.model.proofs.Read.{length-own, read-page}
 use Rattle.model.proofs.Standing.{read-standing}
 use Rattle.model.proofs.Right.{sound-right, right-pages}
 use Rattle.pagemap.proofs.Map.{met-exactly}
-use Rattle.lend.proofs.Fitting.{head-long, head-root, head-levels}
+use Rattle.lend.proofs.Touching.{map-bits}
+use Rattle.lend.proofs.Fitting.{headed-sized, head-root, head-levels}
 use Rattle.tree.proofs.Meeting.{Follows, Goes}
 use Rattle.tree.proofs.Walked.{Fine, GoesBelow, treeAt, tree-goes}
 
@@ -73,26 +74,26 @@ sum-weave g f (s ∷ ss) (e ∷ es) h = omega (arith, sum-append g (f s) (e ∷ 
 
 module _ (w : List ℕ) (q : ℕ) where
   abbrev first : ℕ
-  first = word (pageOf w q) (keyPlace 0)
+  first = word (pageIn w q) (keyPlace 0)
 
-  own-first : 1 ≤ countOf (pageOf w q) → 1 ≤ occurs first (entriesOf most (pageOf w q))
+  own-first : 1 ≤ countOf (pageIn w q) → 1 ≤ occurs first (entriesOf most (pageIn w q))
   unfolding entriesOf
-  own-first l = go (countOf (pageOf w q)) l
+  own-first l = go (countOf (pageIn w q)) l
     where
-      go : (n : ℕ) → 1 ≤ n → 1 ≤ occurs first (tab n (entryIn most (pageOf w q)))
+      go : (n : ℕ) → 1 ≤ n → 1 ≤ occurs first (tab n (entryIn most (pageIn w q)))
       go zero l = absurd (omega arith)
       go (suc n) l = omega (arith, same-self first)
 
-  page-first : (p : ℕ) (own : List Entry) → entriesOf most (pageOf w p) ≡ own → 1 ≤ length own → same q p ≤ occurs first own
+  page-first : (p : ℕ) (own : List Entry) → entriesOf most (pageIn w p) ≡ own → 1 ≤ length own → same q p ≤ occurs first own
   page-first p own e l =
       either-eq q p
       (λ s.
-      let here : entriesOf most (pageOf w q) ≡ own = ap (λ (z : ℕ). entriesOf most (pageOf w z)) s ∙ e in
-      let long : countOf (pageOf w q) ≡ length own = sym (length-own most (pageOf w q)) ∙ ap length here in
+      let here : entriesOf most (pageIn w q) ≡ own = ap (λ (z : ℕ). entriesOf most (pageIn w z)) s ∙ e in
+      let long : countOf (pageIn w q) ≡ length own = sym (length-own most (pageIn w q)) ∙ ap length here in
       omega (arith, same-le q p, ap (occurs first) here, own-first (omega arith)))
       (λ n. omega (arith, same-other q p n))
 
-  times-first : (low h : ℕ) (t : Tree h) → 1 ≤ low → Shaped least low h t → Standing least (pageOf w) h t → times q h t ≤ occurs first (entries h t)
+  times-first : (low h : ℕ) (t : Tree h) → 1 ≤ low → Shaped least low h t → Standing least (pageIn w) h t → times q h t ≤ occurs first (entries h t)
   unfolding times entries Shaped Standing
   times-first low zero t l s a = omega arith
   times-first low (suc h) t l s a =
@@ -101,9 +102,9 @@ module _ (w : List ℕ) (q : ℕ) where
         arith,
         page-first (t .page) (t .own) (a .0 .own) (omega arith),
         sum-weave (λ e. same first (e .key)) (entries h) (t .children) (t .own) (s .forks),
-        sum-le (λ c. Shaped least least h c × Standing least (pageOf w) h c) (times q h) (λ c. occurs first (entries h c)) (t .children)
+        sum-le (λ c. Shaped least least h c × Standing least (pageIn w) h c) (times q h) (λ c. occurs first (entries h c)) (t .children)
             (λ c x. times-first least h c (omega arith) (x .0) (x .1))
-            (all-both (Shaped least least h) (Standing least (pageOf w) h) (λ c. Shaped least least h c × Standing least (pageOf w) h c) (t .children) (λ c x y. (x, y))
+            (all-both (Shaped least least h) (Standing least (pageIn w) h) (λ c. Shaped least least h c × Standing least (pageIn w) h c) (t .children) (λ c x y. (x, y))
             (s .below) (a .1)),
       )
 
@@ -113,15 +114,15 @@ module _ (w : List ℕ) (h p : ℕ) (f : Fine w h p 1) where
   abbrev t : Tree h
   t = treeAt w h p
 
-  fine-none : (q : ℕ) → pagesIn (length w) ≤ q → times q h t ≡ 0
+  fine-none : (q : ℕ) → pagesIn today (length w) ≤ q → times q h t ≡ 0
   fine-none q l = either-lt 0 (times q h t) (λ m. absurd (omega (arith, f .marked q m .0))) (λ m. omega arith)
 
-  fine-bits : Rising (entries h t) → (q : ℕ) → times q h t ≤ bitAt (mapOf w) q
+  fine-bits : Rising (entries h t) → (q : ℕ) → times q h t ≤ bitAt (mapIn w) q
   fine-bits r q =
       let once : times q h t ≤ 1 =
       omega (
         arith,
-        times-first w q 1 h t (omega arith) (f .shaped) (read-standing least (pageOf w) h p (f .heights)),
+        times-first w q 1 h t (omega arith) (f .shaped) (read-standing least (pageIn w) h p (f .heights)),
         rising-once (first w q) (entries h t) r,
       ) in
       either-lt 0 (times q h t) (λ m. omega (arith, f .marked q m .1)) (λ m. omega arith)
@@ -129,7 +130,7 @@ module _ (w : List ℕ) (h p : ℕ) (f : Fine w h p 1) where
   pub fine-sits : Sits w 1 h t
   fine-sits = record {
     some = omega arith;
-    stands = read-standing least (pageOf w) h p (f .heights);
+    stands = read-standing least (pageIn w) h p (f .heights);
     shaped = f .shaped;
     inside = λ q m. f .marked q m .0;
   }
@@ -140,7 +141,7 @@ module _ (w : List ℕ) (h p : ℕ) (f : Fine w h p 1) where
 pub record RootThere (w : List ℕ) : Type 0 where
   pub some : 1 ≤ rootWord w
   pub inside : Inside (rootWord w - 1) w
-  pub deep : levelsWord w - 1 < mostLevels
+  pub deep : levelsWord w - 1 < mostLevels today
   pub is : rootWord w - 1 ≡ pred (rootWord w)
 
 pub root-there : (w : List ℕ) → headed w ≡ true → (levelsWord w ≡ 0 → ⊥) → RootThere w
@@ -149,10 +150,6 @@ root-there w e n =
     let some = root .0 in
     let levels = head-levels w e in
     record { some = some; inside = root .1; deep = omega arith; is = omega arith }
-
-map-long : (w : List ℕ) → firstWord 1 ≤ length w → length (mapOf w) ≡ 64
-unfolding mapOf
-map-long w l = simp (length-take, length-drop) (omega arith)
 
 -- ---- the walk from the root
 
@@ -170,21 +167,18 @@ module _ (w : List ℕ) (head : headed w ≡ true) where
   record Walked : Type 0 where
     fine : Fine w h p 1
     follows : Follows w 0 [] (pagesBelow h root) (entries h root)
-    pages : pagesBelow h root ≡ countBits (mapOf w)
+    pages : pagesBelow h root ≡ countBits (mapIn w)
     count : length (entries h root) ≡ countWord w
 
-  many : 64 * length (mapOf w) ≡ 4096
-  many = let e = map-long w (head-long w head) in omega arith
-
-  past : (q : ℕ) → 64 * length (mapOf w) ≤ q → pagesIn (length w) ≤ q
-  past q l = let f = head-facts w head in let most = f .most in let m = many in omega arith
+  past : (q : ℕ) → 64 * length (mapIn w) ≤ q → pagesIn today (length w) ≤ q
+  past q l = omega (arith, map-bits w (headed-sized w head))
 
   walked-sound : Walked → Cursored w → Sound w
-  unfolding wholeOf meets held Formed
+  unfolding wholeOf meets held Formed geometryOf
   walked-sound f c =
-      let met : (q : ℕ) → times q h root ≡ bitAt (mapOf w) q =
-      met-exactly (mapOf w) (λ q. times q h root) (fine-bits w h p (f .fine) (f .follows .rising))
-      (pages-met h root (64 * length (mapOf w)) (λ q l. fine-none w h p (f .fine) q (past q l)) ∙ f .pages) in
+      let met : (q : ℕ) → times q h root ≡ bitAt (mapIn w) q =
+      met-exactly (mapIn w) (λ q. times q h root) (fine-bits w h p (f .fine) (f .follows .rising))
+      (pages-met h root (64 * length (mapIn w)) (λ q l. fine-none w h p (f .fine) q (past q l)) ∙ f .pages) in
       record {
         head = head;
         met = met;
@@ -203,9 +197,9 @@ module _ (w : List ℕ) (head : headed w ≡ true) where
   sound-cursored s = record { closed = s .closed; start = s .start; named = s .named }
 
   sound-walked : Sound w → Walked
-  unfolding wholeOf meets held Formed poolOf pagesOf countBits
+  unfolding wholeOf meets held Formed poolOf pagesOf countBits geometryOf
   sound-walked s =
-      let none : (q : ℕ) → pagesIn (length w) ≤ q → times q h root ≡ 0 = λ q l. s .met q ∙ s .past q l in
+      let none : (q : ℕ) → pagesIn today (length w) ≤ q → times q h root ≡ 0 = λ q l. s .met q ∙ s .past q l in
       let all = right-pages (poolOf w) (sound-right w s) in
       record {
         fine = record {
@@ -213,14 +207,14 @@ module _ (w : List ℕ) (head : headed w ≡ true) where
           shaped = s .formed;
           marked = λ q m.
               let bit = s .met q in (
-                either-lt q (pagesIn (length w)) (λ l. l) (λ l. absurd (omega (arith, none q l))),
-                omega (arith, bitAt-lt (mapOf w) q),
+                either-lt q (pagesIn today (length w)) (λ l. l) (λ l. absurd (omega (arith, none q l))),
+                omega (arith, bitAt-lt (mapIn w) q),
               );
         };
         follows = record { few = omega arith; rising = s .rising; zeros = s .values };
         pages =
-            sym (pages-met h root (64 * length (mapOf w)) (λ q l. none q (past q l)))
-            ∙ sumTo-ext (λ q. times q h root) (bitAt (mapOf w)) (64 * length (mapOf w)) (λ q l. s .met q);
+            sym (pages-met h root (64 * length (mapIn w)) (λ q l. none q (past q l)))
+            ∙ sumTo-ext (λ q. times q h root) (bitAt (mapIn w)) (64 * length (mapIn w)) (λ q l. s .met q);
         count = s .count;
       }
 
@@ -232,8 +226,8 @@ module _ (w : List ℕ) (head : headed w ≡ true) where
     goes-through =
         subst (Goes (Fine w h p 1 × Follows w 0 [] (pagesBelow h root) (entries h root)) (0 + pagesBelow h root) (entries h root)) e root-goes
 
-    pub check-through : (r : Bool) → a ≡ countBits (mapOf w) → b ≡ countWord w → CursorIs w r → Checks w r
-    unfolding wholeOf held
+    pub check-through : (r : Bool) → a ≡ countBits (mapIn w) → b ≡ countWord w → CursorIs w r → Checks w r
+    unfolding wholeOf held geometryOf
     check-through r pages count c =
         let g = goes-through in
         let f : Walked = record {
@@ -248,7 +242,7 @@ module _ (w : List ℕ) (head : headed w ≡ true) where
           sound-yes = λ s. c .finds sits (g .0 .1 .rising) (sound-cursored s);
         }
 
-    pub check-pages : (a ≡ countBits (mapOf w) → ⊥) → Checks w false
+    pub check-pages : (a ≡ countBits (mapIn w) → ⊥) → Checks w false
     check-pages n = record {
       yes-sound = λ y. contrary y refl;
       sound-yes = λ s. let f = sound-walked s in let e₁ = goes-through .1 in let pages = f .pages in absurd (n (omega arith));
@@ -297,7 +291,7 @@ gets-is w zero h p k above r e g s o = absurd (omega arith)
 gets-is w (suc l) h p k above r e g s o =
     let same : h ≡ l = omega arith in
     let t : Tree (suc l) = treeAt w (suc l) p in
-    subst (λ (z : ℕ). GetsBelow w p z k above r) same g 1 t s (read-page least (pageOf w) l p)
+    subst (λ (z : ℕ). GetsBelow w p z k above r) same g 1 t s (read-page least (pageIn w) l p)
     ∙ ap (λ (x : Found). gotBy above (x .value) (find k (suc l) t .read)) (find-held k least 1 (suc l) t (s .shaped) o)
 
 value-there : (above n v m : ℕ) (x : Option ℕ) → got.Value v m ≡ gotBy above x n → there x ≡ true
@@ -340,13 +334,13 @@ module _ (w : List ℕ) (head : headed w ≡ true) where
     }
 
     pub cursor-empty : levelsWord w ≡ 0 → CursorIs w false
-    unfolding wholeOf held
+    unfolding wholeOf held geometryOf
     cursor-empty z = cursor-absent (λ s r y. none-there w (levelsWord w) (pred (rootWord w)) (keyWord w) z y)
 
     module _ (l p : ℕ) (up : levelsWord w ≡ suc l) (is : p ≡ pred (rootWord w)) where
       got-is : (r : Got) → GetsBelow w p l (keyWord w) 0 r → Sits w 1 (wholeOf w .levels) (wholeOf w .tree) → Rising (held (wholeOf w))
           → r ≡ gotBy 0 (lookup (keyWord w) (held (wholeOf w))) (find (keyWord w) (wholeOf w .levels) (wholeOf w .tree) .read)
-      unfolding wholeOf held
+      unfolding wholeOf held geometryOf
       got-is r g s o =
           gets-is w (levelsWord w) l (pred (rootWord w)) (keyWord w) 0 r up (subst (λ (z : ℕ). GetsBelow w z l (keyWord w) 0 r) is g) s o
 

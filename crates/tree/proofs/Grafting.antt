@@ -9,17 +9,17 @@ use native.Mathlib.Omega.{arith}
 use lib.ListN.{length, drop, getD, length-drop}
 use borrow.Author.Tests.{le-leb, lt-leb}
 use Rattle.model.specs.Lists.{ins, sum, All, sumTo, same}
-use Rattle.model.specs.Layout.{least, pagesIn}
-use Rattle.model.specs.PageMap.{mapOf, bitAt}
+use Rattle.model.specs.Layout.{pagesIn, today}
+use Rattle.model.specs.PageMap.{bitAt}
 use Rattle.model.specs.Tree.{Entry, Node, Tree, entry, noEntry, noTree, size, times}
-use Rattle.model.specs.Page.{pageOf, countOf, heightOf, entriesOf, childrenOf}
+use Rattle.model.specs.Page.{countOf, heightOf, entriesOf, childrenOf}
 use Rattle.model.specs.Standing.{numberOf, Standing}
 use Rattle.model.specs.Gap.{slotAt, restAt, childAt}
 use Rattle.model.specs.Insert.{Up, whole, split, cutLeft, cutRight, fit, grown, withChild, put, insertAt, run}
 use Rattle.pagemap.specs.declared.Lowest.the-variants as lowest
 use Rattle.pagemap.specs.Bits.{setBit}
 use Rattle.pagemap.specs.Lowest.{firstOf}
-use Rattle.lend.specs.Pages.{most, keeps}
+use Rattle.lend.specs.Pages.{least, most, keeps, pageIn, mapIn}
 use Rattle.lend.specs.Touches.{Sized, Touches}
 use Rattle.tree.specs.declared.insert.Up.the-variants as up
 use Rattle.tree.specs.Sits.{PathOf, Sits}
@@ -39,7 +39,7 @@ use Rattle.tree.proofs.Growing.{taking, upBelow, runBelow, grownBelow, 
 
 -- what an insertion leaves, once it is known what it hands up
 grows-by : (w : List ℕ) (h : ℕ) (t : Tree h) (g : ℕ) (e : Entry) (w′ : List ℕ) (r : up.the-data) (o : Up (Tree h)) → insertAt least (freshIn w) h t g e ≡ o
-    → r ≡ upOf h o → UpStands w′ h o → ((q : ℕ) → bitAt (mapOf w′) q ≡ bitAt (mapOf w) q + taking w q (run least h t g)) → Touches (grownPages w h t g) w w′
+    → r ≡ upOf h o → UpStands w′ h o → ((q : ℕ) → bitAt (mapIn w′) q ≡ bitAt (mapIn w) q + taking w q (run least h t g)) → Touches (grownPages w h t g) w w′
     → Grows w h t g e w′ r
 grows-by w h t g e w′ r o is handed stands bits touches = record { handed = rw is handed; stands = rw is stands; bits = bits; touches = touches }
 
@@ -124,12 +124,12 @@ module _ {w : List ℕ} {low h : ℕ} {t : Tree (suc h)} {g : ℕ} (a : Ready w 
     words-long : length (wide .own) ≡ suc (length (t .own))
     words-long = length-ins (slotAt h t g) x (t .own) (sits-slot w low h t (a .sits) g (a .within))
 
-    height-is : heightOf (pageOf w₁ (t .page)) ≡ h
+    height-is : heightOf (pageIn w₁ (t .page)) ≡ h
     unfolding Standing
     height-is = ap heightOf (page-kept a w₁ (G .touches)) ∙ a .sits .stands .0 .height
 
     -- its children stand, and their pages are those before and the fresh ones
-    children-stand : All (Standing least (pageOf w₁) h) (wide .children)
+    children-stand : All (Standing least (pageIn w₁) h) (wide .children)
     children-stand = let halves = rw is at (G .stands) in others-stand a w₁ (G .touches) (l ∷ r ∷ []) (halves .0, (halves .1, tt))
 
     children-met : (q : ℕ) → sum (times q h) (wide .children) ≡ sum (times q h) (t .children) + taking w q (runBelow h t g)
@@ -145,7 +145,7 @@ module _ {w : List ℕ} {low h : ℕ} {t : Tree (suc h)} {g : ℕ} (a : Ready w 
         let k = run-ends h t g run-is few in
         grows-by w (suc h) t g e w₂ r₂ (whole wide) (rw (is, words-long, le-leb (suc (length (t .own))) most few)) (f .answer) (
           says-holds h (numberOf h) words-say (rw height-is at (f .holds)),
-          all-standing least (pageOf w₁) (pageOf w₂) h (wide .children)
+          all-standing least (pageIn w₁) (pageIn w₂) h (wide .children)
               (λ q some. sym (f .only .others q (same-zero q (t .page) (omega (arith, children-met q, once-below a q)), tt))) children-stand,
         )
         (λ q. ap (λ (map : List ℕ). bitAt map q) (only-map (f .only)) ∙ rw k (G .bits q))
@@ -171,13 +171,13 @@ module _ {w : List ℕ} {low h : ℕ} {t : Tree (suc h)} {g : ℕ} (a : Ready w 
       next-free =
           let room = a .room in
           rw (G .touches .long)
-          (lowest-kth (mapOf w₁) (bitAt (mapOf w)) (pagesIn (length w)) h (λ q. rw run-is at (G .bits q)) (omega arith))
+          (lowest-kth (mapIn w₁) (bitAt (mapIn w)) (pagesIn today (length w)) h (λ q. rw run-is at (G .bits q)) (omega arith))
 
-      next-taken : mapOf w₂ ≡ setBit (mapOf w₁) (freshIn w h) → (q : ℕ) → bitAt (mapOf w₂) q ≡ bitAt (mapOf w) q + taking w q (run least (suc h) t g)
+      next-taken : mapIn w₂ ≡ setBit (mapIn w₁) (freshIn w h) → (q : ℕ) → bitAt (mapIn w₂) q ≡ bitAt (mapIn w) q + taking w q (run least (suc h) t g)
       unfolding sumTo
       next-taken map q =
           let long = G .touches .long in
-          let taken = take-counts (mapOf w₁) (λ p. bitAt (mapOf w) p + taking w p h) (pagesIn (length w₁)) (freshIn w h)
+          let taken = take-counts (mapIn w₁) (λ p. bitAt (mapIn w) p + taking w p h) (pagesIn today (length w₁)) (freshIn w h)
           (map-bits w₁ (omega arith)) (λ p. rw run-is at (G .bits p)) next-free in
           rw (map, k) (omega (arith, taken .2 q))
 
@@ -185,18 +185,18 @@ module _ {w : List ℕ} {low h : ℕ} {t : Tree (suc h)} {g : ℕ} (a : Ready w 
       unfolding insertAt put fit Standing
       full-grows r₂ full f =
           let q = freshIn w h in
-          let stand : All (Standing least (pageOf w₂) h) (wide .children) =
-          all-standing least (pageOf w₁) (pageOf w₂) h (wide .children) (λ p some. let d = children-apart p some in sym (f .touches .others p (d .0, (d .1, tt)))) children-stand in
+          let stand : All (Standing least (pageIn w₂) h) (wide .children) =
+          all-standing least (pageIn w₁) (pageIn w₂) h (wide .children) (λ p some. let d = children-apart p some in sym (f .touches .others p (d .0, (d .1, tt)))) children-stand in
           grows-by w (suc h) t g e w₂ r₂ (split (cutLeft keeps wide) (getD (wide .own) keeps noEntry) (cutRight q keeps wide))
           (rw (is, words-long, lt-leb (suc (length (t .own))) most (omega arith)))
           (f .answer ∙ ap (λ (es : List Entry). up.Split (getD es keeps noEntry .key) (getD es keeps noEntry .value) q) (words-say .own)) (
             (
               says-holds h (numberOf h) (says-left h (numberOf h) keeps words-say) (rw height-is at (f .left)),
-              all-take (Standing least (pageOf w₂) h) (suc keeps) (wide .children) stand,
+              all-take (Standing least (pageIn w₂) h) (suc keeps) (wide .children) stand,
             ),
             (
               says-holds h (numberOf h) (says-right h (numberOf h) q keeps words-say) (rw height-is at (f .right)),
-              all-drop (Standing least (pageOf w₂) h) (suc keeps) (wide .children) stand,
+              all-drop (Standing least (pageIn w₂) h) (suc keeps) (wide .children) stand,
             ),
           )
           (next-taken (f .map))
@@ -204,7 +204,7 @@ module _ {w : List ℕ} {low h : ℕ} {t : Tree (suc h)} {g : ℕ} (a : Ready w 
 
     split-grows : (r₂ : up.the-data) → Puts (t .page) (slotAt h t g) x (numberOf h r) w₁ w₂ r₂ → Grows w (suc h) t g e w₂ r₂
     split-grows r₂ P =
-        let count : countOf (pageOf w₁ (t .page)) ≡ length (t .own) = ap countOf (page-kept a w₁ (G .touches)) ∙ root-count w h t (a .sits .stands) in
+        let count : countOf (pageIn w₁ (t .page)) ≡ length (t .own) = ap countOf (page-kept a w₁ (G .touches)) ∙ root-count w h t (a .sits .stands) in
         let slot = sits-slot w low h t (a .sits) g (a .within) in
         let some = sits-some w low h t (a .sits) in
         let few = sits-most w low h t (a .sits) in

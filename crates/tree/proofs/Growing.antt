@@ -9,14 +9,13 @@ use native.Mathlib.Omega.{arith}
 use lib.ListN.{length, take, drop}
 use borrow.Author.Tests.{le-leb, lt-leb, eq-eqb, ne-eqb}
 use Rattle.model.specs.Lists.{splice, tab, sum, All, sumTo, same}
-use Rattle.model.specs.Layout.{least, pagesIn}
-use Rattle.model.specs.PageMap.{mapOf, bitAt}
+use Rattle.model.specs.Layout.{pagesIn, today}
+use Rattle.model.specs.PageMap.{bitAt}
 use Rattle.model.specs.Tree.{Entry, Tree, noTree, size, times, Shaped}
-use Rattle.model.specs.Page.{pageOf}
 use Rattle.model.specs.Standing.{Standing}
 use Rattle.model.specs.Gap.{slotAt, restAt, childAt, gapPages}
 use Rattle.model.specs.Insert.{Up, insertAt, run}
-use Rattle.lend.specs.Pages.{most}
+use Rattle.lend.specs.Pages.{least, most, pageIn, mapIn}
 use Rattle.lend.specs.Touches.{Touches}
 use Rattle.tree.specs.Sits.{Sits}
 use Rattle.tree.specs.Insert.{freesIn, freshIn, Marked, grownPages}
@@ -104,7 +103,7 @@ pub record Ready (w : List ℕ) (low h : ℕ) (t : Tree h) (g : ℕ) : Type 0 wh
 module _ {w : List ℕ} {low h : ℕ} {t : Tree (suc h)} {g : ℕ} (a : Ready w low (suc h) t g) where
   -- no page is taken twice, so none is met twice
   pub once : (q : ℕ) → times q (suc h) t + taking w q (run least (suc h) t g) ≤ 1
-  once q = omega (arith, a .marked q, fresh-once (bitAt (mapOf w)) (pagesIn (length w)) (run least (suc h) t g) q (a .room) (bitAt-le (mapOf w) q))
+  once q = omega (arith, a .marked q, fresh-once (bitAt (mapIn w)) (pagesIn today (length w)) (run least (suc h) t g) q (a .room) (bitAt-le (mapIn w) q))
 
   pub once-below : (q : ℕ) → same q (t .page) + sum (times q h) (t .children) + taking w q (runBelow h t g) ≤ 1
   unfolding times run sumTo
@@ -137,9 +136,9 @@ module _ {w : List ℕ} {low h : ℕ} {t : Tree (suc h)} {g : ℕ} (a : Ready w 
       (omega (arith, grown-met w least h (childAt h t g) (restAt h t g) q (child-ready .sits .shaped) (child-ready .within), once-below q, parts q))
 
   module _ (w₁ : List ℕ) (c : Touches (grownBelow w h t g) w w₁) where
-    pub page-kept : pageOf w₁ (t .page) ≡ pageOf w (t .page)
+    pub page-kept : pageIn w₁ (t .page) ≡ pageIn w (t .page)
     page-kept = c .others (t .page) (apart (t .page) (omega (arith, same-self (t .page))))
 
-    pub others-stand : (cs : List (Tree h)) → All (Standing least (pageOf w₁) h) cs → All (Standing least (pageOf w₁) h) (splice (slotAt h t g) cs (t .children))
+    pub others-stand : (cs : List (Tree h)) → All (Standing least (pageIn w₁) h) cs → All (Standing least (pageIn w₁) h) (splice (slotAt h t g) cs (t .children))
     unfolding Standing
-    others-stand cs all = splice-standing least (pageOf w) (pageOf w₁) h (slotAt h t g) cs (t .children) (λ q l. sym (c .others q (apart q (omega arith)))) (a .sits .stands .1) all
+    others-stand cs all = splice-standing least (pageIn w) (pageIn w₁) h (slotAt h t g) cs (t .children) (λ q l. sym (c .others q (apart q (omega arith)))) (a .sits .stands .1) all

@@ -9,16 +9,16 @@ use native.Mathlib.Numerals.{add-one}
 use native.Mathlib.Omega.{arith}
 use lib.ListN.{length, take, drop, set, length-set}
 use lib.Seq.{drop-drop, drop-set-lt, getD-set-same, getD-set-other}
-use Rattle.model.specs.Layout.{headWords, mapWords, pageWords, firstWord, word}
-use Rattle.model.specs.PageMap.{mapOf}
+use Rattle.model.specs.Layout.{headWords, pageWords, mapWords, firstWord, word, today}
+use Rattle.model.specs.PageMap.{mapAt}
 use Rattle.model.specs.Tree.{Entry}
-use Rattle.model.specs.Page.{pageOf, countOf, Holds}
+use Rattle.model.specs.Page.{countOf, Holds, pageAt}
 use Rattle.pagemap.specs.declared.Lowest.{Lowest}
 use Rattle.pagemap.specs.declared.Lowest.the-variants as lowest
 use Rattle.pagemap.specs.Bits.{clearBit}
 use Rattle.pagemap.specs.Lowest.{firstOf, took}
 use Rattle.page.specs.Node.{alone}
-use Rattle.lend.specs.Pages.{most, Inside, OnlyPages}
+use Rattle.lend.specs.Pages.{most, Inside, OnlyPages, pageIn, mapIn}
 use Rattle.lend.specs.Touches.{MapBecomes}
 use Rattle.tree.specs.declared.search.Below.{Below}
 use Rattle.tree.specs.declared.search.Below.the-variants as below
@@ -37,16 +37,16 @@ pub record HeadOnly (w w′ : List ℕ) : Type 0 where
   pub long : length w′ ≡ length w
   pub rest : drop headWords w′ ≡ drop headWords w
 
-pub head-map : {w w′ : List ℕ} → HeadOnly w w′ → mapOf w′ ≡ mapOf w
-unfolding mapOf
-head-map c = ap (take mapWords) (c .rest)
+pub head-map : {w w′ : List ℕ} → HeadOnly w w′ → mapIn w′ ≡ mapIn w
+unfolding mapAt
+head-map c = ap (take (mapWords today)) (c .rest)
 
-pub head-page : {w w′ : List ℕ} → HeadOnly w w′ → (p : ℕ) → pageOf w′ p ≡ pageOf w p
-unfolding pageOf
+pub head-page : {w w′ : List ℕ} → HeadOnly w w′ → (p : ℕ) → pageIn w′ p ≡ pageIn w p
+unfolding pageAt
 head-page {w} {w′} c p =
-    let n : ℕ = mapWords + pageWords * p in
-    let e : firstWord p ≡ headWords + n = omega arith in
-    ap (take pageWords)
+    let n : ℕ = mapWords today + pageWords today * p in
+    let e : firstWord today p ≡ headWords + n = omega arith in
+    ap (take (pageWords today))
     (ap (λ (k : ℕ). drop k w′) e ∙ sym (drop-drop n headWords w′) ∙ ap (drop n) (c .rest) ∙ drop-drop n headWords w ∙ ap (λ (k : ℕ). drop k w) (sym e))
 
 pub head-then : {w w₁ w₂ : List ℕ} → HeadOnly w w₁ → HeadOnly w₁ w₂ → HeadOnly w w₂
@@ -95,11 +95,11 @@ module _ (w : List ℕ) (r h : ℕ) where
 
 -- the lowest free page lies inside
 pub lowest-inside : (w w′ : List ℕ) (q : ℕ) → firstOf (freesIn w) ≡ lowest.Page q → length w′ ≡ length w → Inside q w′
-lowest-inside w w′ q first long = omega (arith, lowest-is (mapOf w) _ q first)
+lowest-inside w w′ q first long = omega (arith, lowest-is (mapIn w) _ q first)
 
 module _ (levels : ℕ) (e : Entry) (l r : ℕ) {w w₁ : List ℕ} where
   -- no page is free
-  pub roots-none : {a : Lowest} → a ≡ firstOf (freesIn w) → a ≡ lowest.None → MapBecomes (took (mapOf w) a) w w₁ → NewRoots levels e l r w w₁
+  pub roots-none : {a : Lowest} → a ≡ firstOf (freesIn w) → a ≡ lowest.None → MapBecomes (took (mapIn w) a) w w₁ → NewRoots levels e l r w w₁
   roots-none first none m = record {
     long = m .keeps .long;
     count = touches-word (m .keeps) 2 (omega arith);
@@ -107,8 +107,8 @@ module _ (levels : ℕ) (e : Entry) (l r : ℕ) {w w₁ : List ℕ} where
   }
 
   -- page q is taken, then written, and then named by the head
-  pub roots-done : {w₂ : List ℕ} {a : Lowest} (q : ℕ) → headWords ≤ length w → a ≡ firstOf (freesIn w) → a ≡ lowest.Page q → MapBecomes (took (mapOf w) a) w w₁
-      → Holds most levels (alone e l r) (pageOf w₂ q) → OnlyPages (q ∷ []) w₁ w₂ → NewRoots levels e l r w (rootedAs (q + 1) (levels + 1) w₂)
+  pub roots-done : {w₂ : List ℕ} {a : Lowest} (q : ℕ) → headWords ≤ length w → a ≡ firstOf (freesIn w) → a ≡ lowest.Page q → MapBecomes (took (mapIn w) a) w w₁
+      → Holds most levels (alone e l r) (pageIn w₂ q) → OnlyPages (q ∷ []) w₁ w₂ → NewRoots levels e l r w (rootedAs (q + 1) (levels + 1) w₂)
   roots-done {w₂} {a} q b first is m holds o =
       let long : length w₂ ≡ length w = o .long ∙ m .keeps .long in
       let w₃ : List ℕ = rootedAs (q + 1) (levels + 1) w₂ in
@@ -118,7 +118,7 @@ module _ (levels : ℕ) (e : Entry) (l r : ℕ) {w w₁ : List ℕ} where
       let tops : Tops q levels e l r w w₃ = record {
         holds = rw (head-page head q) holds;
         rooted = subst₂ (λ (x y : ℕ). Rooted x y w w₃) (add-one q) (add-one levels) rooted;
-        map = head-map head ∙ only-map o ∙ m .map ∙ ap (took (mapOf w)) is;
+        map = head-map head ∙ only-map o ∙ m .map ∙ ap (took (mapIn w)) is;
         others = λ p n. head-page head p ∙ o .others p (n, tt) ∙ m .keeps .others p tt;
       } in
       record {
@@ -130,7 +130,7 @@ module _ (levels : ℕ) (e : Entry) (l r : ℕ) {w w₁ : List ℕ} where
 -- ---- a root that is freed
 
 pub lowered : {w w′ : List ℕ} (r h old : ℕ) → headWords ≤ length w
-    → MapBecomes (clearBit (mapOf (rootedAs r h w)) old) (rootedAs r h w) w′ → Lowered r h old w w′
+    → MapBecomes (clearBit (mapIn (rootedAs r h w)) old) (rootedAs r h w) w′ → Lowered r h old w w′
 lowered {w} {w′} r h old b m =
     let head : HeadOnly w (rootedAs r h w) = rooted-head w r h in
     record {
@@ -140,7 +140,7 @@ lowered {w} {w′} r h old b m =
     }
 
 module _ (w : List ℕ) (old levels : ℕ) where
-  pub lowers-not : 1 ≤ countOf (pageOf w old) → Lowers old levels w w
+  pub lowers-not : 1 ≤ countOf (pageIn w old) → Lowers old levels w w
   lowers-not some = record {
     long = refl;
     count = refl;
@@ -158,7 +158,7 @@ module _ (w : List ℕ) (old levels : ℕ) where
     lowers = λ _ _ c here. no-page none (is ∙ here);
   }
 
-  pub lowers-done : {w′ : List ℕ} (r h : ℕ) → countOf (pageOf w old) ≡ 0 → headWords ≤ length w → MapBecomes (clearBit (mapOf (rootedAs r h w)) old) (rootedAs r h w) w′
+  pub lowers-done : {w′ : List ℕ} (r h : ℕ) → countOf (pageIn w old) ≡ 0 → headWords ≤ length w → MapBecomes (clearBit (mapIn (rootedAs r h w)) old) (rootedAs r h w) w′
       → (levels ≡ 1 → (r ≡ 0) × (h ≡ 0)) → (2 ≤ levels → (c : ℕ) → belowOf w old 0 ≡ below.Page c → (r ≡ suc c) × (h ≡ levels - 1)) → Lowers old levels w w′
   lowers-done {w′} r h none b m one more =
       let done : Lowered r h old w w′ = lowered r h old b m in

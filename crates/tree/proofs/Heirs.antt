@@ -10,12 +10,12 @@ use lib.ListN.{length}
 use borrow.Author.Tests.{le-leb, lt-leb, lt-ltb, le-ltb}
 use Rattle.model.specs.Lists.{final, del}
 use Rattle.model.specs.Tree.{entry, noEntry}
-use Rattle.model.specs.Page.{pageOf, countOf, entryIn, entriesOf}
+use Rattle.model.specs.Page.{countOf, entryIn, entriesOf}
 use Rattle.model.specs.Remove as removal
 use Rattle.page.specs.declared.Change.{Change}
 use Rattle.page.specs.Node.{less, instead}
 use Rattle.page.specs.Page.{holdsAt}
-use Rattle.lend.specs.Pages.{most, nodeIn, Becomes, ChangesIn}
+use Rattle.lend.specs.Pages.{most, nodeIn, Becomes, ChangesIn, pageIn}
 use Rattle.tree.specs.declared.remove.Gone.{Gone}
 use Rattle.tree.specs.declared.remove.Gone.the-variants as gone
 use Rattle.tree.specs.Remove.{TakesOut, Inherits}
@@ -38,10 +38,10 @@ gone-past (suc n) zero (x ∷ y ∷ l) k b = absurd (omega arith)
 gone-past {A} (suc n) (suc g) (x ∷ y ∷ l) k b = ap (λ (r : List A). x ∷ r) (gone-past n g (y ∷ l) (omega arith) (omega arith))
 
 module _ (w : List ℕ) (p s : ℕ) where
-  pub takes-inside : {w′ : List ℕ} {a : Change} → s < countOf (pageOf w p)
-      → ChangesIn p (holdsAt most (pageOf w p) s 0) (less s 0 (nodeIn w p)) w w′ a → TakesOut p s w w′ gone.Taken
+  pub takes-inside : {w′ : List ℕ} {a : Change} → s < countOf (pageIn w p)
+      → ChangesIn p (holdsAt most (pageIn w p) s 0) (less s 0 (nodeIn w p)) w w′ a → TakesOut p s w w′ gone.Taken
   takes-inside b c =
-      let page = pageOf w p in
+      let page = pageIn w p in
       let long : length (entriesOf most page) ≡ countOf page = length-own most page in
       record {
         only = c .only;
@@ -51,7 +51,7 @@ module _ (w : List ℕ) (p s : ℕ) where
       }
 
   -- a page that can't be
-  pub takes-none : (1 ≤ countOf (pageOf w p) → countOf (pageOf w p) ≤ most → ⊥) → TakesOut p s w w gone.Taken
+  pub takes-none : (1 ≤ countOf (pageIn w p) → countOf (pageIn w p) ≤ most → ⊥) → TakesOut p s w w gone.Taken
   takes-none n = record {
     only = only-none (p ∷ []) refl;
     answer = λ some few. absurd (n some few);
@@ -59,10 +59,10 @@ module _ (w : List ℕ) (p s : ℕ) where
     own = λ some few. absurd (n some few);
   }
 
-  pub takes-last : {w′ : List ℕ} {a : Change} (n k v : ℕ) → countOf (pageOf w p) ≡ suc n → countOf (pageOf w p) ≤ s → entry k v ≡ entryIn most (pageOf w p) n
-      → ChangesIn p (holdsAt most (pageOf w p) n 0) (less n 0 (nodeIn w p)) w w′ a → TakesOut p s w w′ (gone.Last k v)
+  pub takes-last : {w′ : List ℕ} {a : Change} (n k v : ℕ) → countOf (pageIn w p) ≡ suc n → countOf (pageIn w p) ≤ s → entry k v ≡ entryIn most (pageIn w p) n
+      → ChangesIn p (holdsAt most (pageIn w p) n 0) (less n 0 (nodeIn w p)) w w′ a → TakesOut p s w w′ (gone.Last k v)
   takes-last n k v e b known c =
-      let page = pageOf w p in
+      let page = pageIn w p in
       let es = entriesOf most page in
       let long : length es ≡ countOf page = length-own most page in
       let last : final noEntry es ≡ entry k v = final-at noEntry es n (omega arith) ∙ sym (own-at page n (omega arith)) ∙ sym known in
@@ -79,30 +79,30 @@ module _ (w : List ℕ) (p s : ℕ) {x : Gone} where
   pub inherits-none : x ≡ gone.Taken → Inherits p s x w w gone.Taken
   inherits-none e = record {
     only = only-none (p ∷ []) refl;
-    answer = rw e (either (ltb s (countOf (pageOf w p))) (λ y. rw y) (λ n. rw n));
+    answer = rw e (either (ltb s (countOf (pageIn w p))) (λ y. rw y) (λ n. rw n));
     kept = λ _. refl;
     past = λ _. refl;
     holds = λ k v f. never (cc);
   }
 
-  pub inherits-past : (k v : ℕ) → x ≡ gone.Last k v → countOf (pageOf w p) ≤ s → Inherits p s x w w (gone.Last k v)
+  pub inherits-past : (k v : ℕ) → x ≡ gone.Last k v → countOf (pageIn w p) ≤ s → Inherits p s x w w (gone.Last k v)
   inherits-past k v e b = record {
     only = only-none (p ∷ []) refl;
-    answer = rw (le-ltb s (countOf (pageOf w p)) b) (sym e);
+    answer = rw (le-ltb s (countOf (pageIn w p)) b) (sym e);
     kept = λ _. refl;
     past = λ _. refl;
     holds = λ k v f l. absurd (omega arith);
   }
 
-  pub inherits-inside : {w′ : List ℕ} {a : Change} (k v : ℕ) → x ≡ gone.Last k v → s < countOf (pageOf w p)
-      → ChangesIn p (holdsAt most (pageOf w p) s 0) (instead s (entry k v) (nodeIn w p)) w w′ a → Inherits p s x w w′ gone.Taken
+  pub inherits-inside : {w′ : List ℕ} {a : Change} (k v : ℕ) → x ≡ gone.Last k v → s < countOf (pageIn w p)
+      → ChangesIn p (holdsAt most (pageIn w p) s 0) (instead s (entry k v) (nodeIn w p)) w w′ a → Inherits p s x w w′ gone.Taken
   inherits-inside {w′} k v e b c = record {
     only = c .only;
-    answer = rw (lt-ltb s (countOf (pageOf w p)) b);
+    answer = rw (lt-ltb s (countOf (pageIn w p)) b);
     kept = λ f. never (cc);
     past = λ l. absurd (omega arith);
     holds = λ k′ v′ f l few.
         let ek : k ≡ k′ = cc in
         let ev : v ≡ v′ = cc in
-        subst₂ (λ (x y : ℕ). Becomes p (instead s (entry x y) (nodeIn w p)) w w′) ek ev (c .holds (holds-at most (pageOf w p) s 0 few b (omega arith)));
+        subst₂ (λ (x y : ℕ). Becomes p (instead s (entry x y) (nodeIn w p)) w w′) ek ev (c .holds (holds-at most (pageIn w p) s 0 few b (omega arith)));
   }

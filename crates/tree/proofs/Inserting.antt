@@ -1,7 +1,7 @@
 -- An entry inserted into a pool: the free pages by the map are those by the tree; a tree that has grown along a path, with a new root where it split, is
 -- `model`'s, and the words then hold the pool with that entry put at the gap.
 -- Assumes nothing.
-use mathlib.Core.Path.{subst, _≡_, refl, sym, ap, _∙_}
+use mathlib.Core.Path.{subst, _≡_, refl, sym, ap, _∙_, subst₂}
 use mathlib.Core.Bool.{true, false}
 use mathlib.Core.Logic.{_≢_}
 use mathlib.Core.List.{List, [], _∷_, _++_}
@@ -10,22 +10,22 @@ use native.Mathlib.Omega.{arith}
 use lib.ListN.{length, take, getD, set, length-set}
 use borrow.Author.Tests.{eq-eqb, ne-eqb, lt-ltb, le-ltb}
 use Rattle.model.specs.Lists.{All, tab, ins}
-use Rattle.model.specs.Layout.{least, headWords, pagesIn, word}
+use Rattle.model.specs.Layout.{headWords, pagesIn, word, today}
 use Rattle.model.specs.Head.{levelsWord, headed}
-use Rattle.model.specs.PageMap.{mapOf, bitAt}
+use Rattle.model.specs.PageMap.{bitAt}
 use Rattle.model.specs.Tree.{Entry, noEntry, entry, Tree, Whole, held, meets, times, Formed}
-use Rattle.model.specs.Page.{pageOf}
 use Rattle.model.specs.Standing.{rootOf, numberOf, Standing}
 use Rattle.model.specs.Gap.{gapPages}
 use Rattle.model.specs.Insert as insertion
 use Rattle.model.specs.Insert.{whole, split, insertAt, top, insert, run, needed}
-use Rattle.model.specs.Pool.{withWhole, Pool, heldBy, freeOf, room, poolOf, gapBy}
+use Rattle.model.specs.Pool.{withWhole, Pool, heldBy, freeOf, room, poolOf, gapBy, leastBy}
 use Rattle.model.specs.Sound.{Sound}
 use Rattle.model.specs.Written.{Written}
 use Rattle.model.specs.MapCalls.{putAt, crowded}
 use Rattle.pagemap.specs.declared.Lowest.the-variants as lowest
 use Rattle.pagemap.specs.Lowest.{freeIn, firstOf}
 use Rattle.lend.specs.Touches.{Sized}
+use Rattle.lend.specs.Pages.{least, pageIn, mapIn}
 use Rattle.tree.specs.declared.insert.Inserted.the-variants as inserted
 use Rattle.tree.specs.declared.insert.Up.{Up}
 use Rattle.tree.specs.declared.insert.Up.the-variants as up
@@ -44,18 +44,18 @@ use Rattle.lend.proofs.Fitting.{headed-sized}
 use Rattle.tree.proofs.Sitting.{sound-sits}
 use Rattle.tree.proofs.Paths.{first-page}
 use Rattle.tree.proofs.Heads.{head-page, head-stored}
-use Rattle.tree.proofs.Leaving.{head-word, key-stays, Carries, carries-leaves, leaves-written}
+use Rattle.tree.proofs.Leaving.{head-word, key-stays, Carries, carries-leaves, leaves-written, written-today, written-least, written-bits, written-formed}
 
 -- ---- the pool by its words
 
 -- P
-pub written-pages : {w : List ℕ} {p : Pool} → Written w p → pagesIn (length w) ≡ p .pages
-written-pages a = let e = a .long in omega arith
+pub written-pages : {w : List ℕ} {p : Pool} → Written w p → pagesIn today (length w) ≡ p .pages
+written-pages a = let e = rw (written-today a) at (a .long) in omega arith
 
 -- the free pages by the map are those by the tree
 pub written-frees : {w : List ℕ} {p : Pool} → Written w p → freesIn w ≡ freeOf p
 unfolding freeOf
-written-frees {w} {p} a = rw (written-pages a) (free-same (bitAt (mapOf w)) (λ q. meets q (p .whole)) (p .pages) (λ q _. a .bits q))
+written-frees {w} {p} a = rw (written-pages a) (free-same (bitAt (mapIn w)) (λ q. meets q (p .whole)) (p .pages) (λ q _. written-bits a q))
 
 -- what is done with what is handed up: nothing, or a new root over the two halves
 abbrev pub Topped : List ℕ → Up → List ℕ → List ℕ → Type 0
@@ -75,7 +75,7 @@ topped-count ps (up.Split k v right) w₁ w₂ n = n .count
 module _ (w₁ w₂ ps : List ℕ) (h k q : ℕ) (first : k ≡ h → firstOf (freesIn w₁) ≡ lowest.Page q) where
   pub top-carries : (w : List ℕ) (t : Tree h) (o : insertion.Up (Tree h)) → Sized w → length w₁ ≡ length w → take headWords w₁ ≡ take headWords w
       → word w 3 ≡ rootOf h t → word w 4 ≡ h → length ps ≡ h → (0 < h → getD ps 0 0 ≡ numberOf h t) → rootOf h (upLeft o) ≡ rootOf h t → Used h o k
-      → UpStands w₁ h o → ((p : ℕ) → bitAt (mapOf w₁) p ≡ upTimes (times p h) o) → Topped ps (upOf h o) w₁ w₂ → Carries w (top q h o) w₂
+      → UpStands w₁ h o → ((p : ℕ) → bitAt (mapIn w₁) p ≡ upTimes (times p h) o) → Topped ps (upOf h o) w₁ w₂ → Carries w (top q h o) w₂
   unfolding top meets times Standing
   top-carries w t (whole c) sized long head root levels many there stays u stands bits e = rw e (record {
     long = long;
@@ -86,10 +86,10 @@ module _ (w₁ w₂ ps : List ℕ) (h k q : ℕ) (first : k ≡ h → firstOf (f
     stands = stands;
   })
   top-carries w t (split l x r) sized long head root levels many there stays u stands bits n =
-      let taken = take-counts (mapOf w₁) (λ p. upTimes (times p h) (split l x r)) (pagesIn (length w₁)) q (map-bits w₁ (rw long sized)) bits (first u) in
+      let taken = take-counts (mapIn w₁) (λ p. upTimes (times p h) (split l x r)) (pagesIn today (length w₁)) q (map-bits w₁ (rw long sized)) bits (first u) in
       let none : times q h l + times q h r ≡ 0 = taken .1 in
       let tops = n .tops q (first u) in
-      let same-page : (c : Tree h) → times q h c ≡ 0 → (p : ℕ) → 0 < times p h c → pageOf w₁ p ≡ pageOf w₂ p =
+      let same-page : (c : Tree h) → times q h c ≡ 0 → (p : ℕ) → 0 < times p h c → pageIn w₁ p ≡ pageIn w₂ p =
       λ c z p met. sym (tops .others p (λ e. omega (arith, ap (λ (y : ℕ). times y h c) e))) in
       record {
         long = n .long ∙ long;
@@ -104,15 +104,15 @@ module _ (w₁ w₂ ps : List ℕ) (h k q : ℕ) (first : k ≡ h → firstOf (f
             children = λ b. tops .holds .children (omega arith) ∙ ap (λ (c : ℕ). c ∷ numberOf h r ∷ []) (there b ∙ ap pred (sym stays));
           },
           (
-            standing-frame least (pageOf w₁) (pageOf w₂) h l (same-page l (omega arith)) (stands .0),
-            (standing-frame least (pageOf w₁) (pageOf w₂) h r (same-page r (omega arith)) (stands .1), tt),
+            standing-frame least (pageIn w₁) (pageIn w₂) h l (same-page l (omega arith)) (stands .0),
+            (standing-frame least (pageIn w₁) (pageIn w₂) h r (same-page r (omega arith)) (stands .1), tt),
           ),
         );
       }
 
   -- no page but those that grew and the new root has changed
-  pub top-others : (o : insertion.Up (Tree h)) → Used h o k → Topped ps (upOf h o) w₁ w₂ → (p : ℕ) → (k ≡ h → p ≢ q) → pageOf w₂ p ≡ pageOf w₁ p
-  top-others (whole c) u e p n = ap (λ (l : List ℕ). pageOf l p) e
+  pub top-others : (o : insertion.Up (Tree h)) → Used h o k → Topped ps (upOf h o) w₁ w₂ → (p : ℕ) → (k ≡ h → p ≢ q) → pageIn w₂ p ≡ pageIn w₁ p
+  top-others (whole c) u e p n = ap (λ (l : List ℕ). pageIn l p) e
   top-others (split l x r) u made p n = made .tops q (first u) .others p (n u)
 
 -- ---- the pages that it needs
@@ -149,13 +149,13 @@ module _ (w : List ℕ) (P : Pool) (r : Right P) (a : Written w P) (g : ℕ) (e 
 
   first : k ≡ h → firstOf (freesIn w₁) ≡ lowest.Page (freshIn w h)
   first e =
-      let there : firstOf (freeIn (mapOf w₁) (pagesIn (length w))) ≡ lowest.Page (freshIn w k) =
-      lowest-kth (mapOf w₁) (bitAt (mapOf w)) (pagesIn (length w)) k (grows .bits) (omega (arith, needed-top least (P .whole) g e)) in
+      let there : firstOf (freeIn (mapIn w₁) (pagesIn today (length w))) ≡ lowest.Page (freshIn w k) =
+      lowest-kth (mapIn w₁) (bitAt (mapIn w)) (pagesIn today (length w)) k (grows .bits) (omega (arith, needed-top least (P .whole) g e)) in
       rw (grows .touches .long) (rw e at there)
 
   used : Used h o k
   unfolding held Formed
-  used = insertAt-used least (freshIn w) 1 h t g e (r .formed) b
+  used = insertAt-used least (freshIn w) 1 h t g e (written-formed a r) b
 
   pub insert-carries : Carries w (insert least (freshIn w) (P .whole) g e) w₂
   unfolding insert held Formed meets
@@ -163,10 +163,10 @@ module _ (w : List ℕ) (P : Pool) (r : Right P) (a : Written w P) (g : ℕ) (e 
       top-carries w₁ w₂ ps h k (freshIn w h) first w t o sized (grows .touches .long) (grows .touches .head)
       (head-word a 3 (omega arith)) (head-word a 4 (omega arith)) many (λ l. first-page h t g l path)
       (insertAt-root least (freshIn w) h t g e) used (grows .stands)
-      (λ p. omega (arith, grows .bits p, a .bits p, insertAt-times least (freshIn w) p 1 h t g e (r .formed) b))
+      (λ p. omega (arith, grows .bits p, written-bits a p, insertAt-times least (freshIn w) p 1 h t g e (written-formed a r) b))
       (rw (grows .handed) at topped)
 
-  pub insert-others : (q : ℕ) → All (λ p. q ≢ p) (ps ++ tab (needed least (P .whole) g) (freshIn w)) → pageOf w₂ q ≡ pageOf w q
+  pub insert-others : (q : ℕ) → All (λ p. q ≢ p) (ps ++ tab (needed least (P .whole) g) (freshIn w)) → pageIn w₂ q ≡ pageIn w q
   insert-others q far =
       let fresh : All (λ p. q ≢ p) (tab (needed least (P .whole) g) (freshIn w)) = all-right (λ p. q ≢ p) ps (tab (needed least (P .whole) g) (freshIn w)) far in
       let below : All (λ p. q ≢ p) (tab k (freshIn w)) =
@@ -182,9 +182,9 @@ module _ (w : List ℕ) (P : Pool) (r : Right P) (a : Written w P) (g : ℕ) (e 
   pub insert-written : gapBy P ≤ g → Written (set w₂ 2 (word w₂ 2 + 1)) (putAt g e P)
   insert-written before =
       let x = insert least (freshIn w) (P .whole) g e in
-      let after : held x ≡ ins g e (heldBy P) = insert-held least (freshIn w) (P .whole) g e (r .formed) b in
+      let after : held x ≡ ins g e (heldBy P) = insert-held least (freshIn w) (P .whole) g e (written-formed a r) b in
       let c = insert-carries in
-      subst (λ (l : List ℕ). Written (set w₂ 2 (word w₂ 2 + 1)) (withWhole P (insert least (λ j. getD l j 0) (P .whole) g e))) (written-frees a)
+      subst₂ (λ (m : ℕ) (l : List ℕ). Written (set w₂ 2 (word w₂ 2 + 1)) (withWhole P (insert m (λ j. getD l j 0) (P .whole) g e))) (sym (written-least a)) (written-frees a)
       (leaves-written w P x (set w₂ 2 (word w₂ 2 + 1)) a
       (carries-leaves w P x w₂ (word w₂ 2 + 1) c (omega arith)
       (omega (arith, c .words 2 (omega arith) (omega arith) (omega arith), head-word a 2 (omega arith), ap length after, length-ins g e (heldBy P) b))
@@ -199,14 +199,17 @@ module _ (w ps : List ℕ) (k g : ℕ) (needs : Needs w ps k) (sound : Sound w) 
   unfolding held
   pages-needed = needs .exact 1 (poolOf w .whole .levels) (poolOf w .whole .tree) g (sound-sits w sound) b path
 
+  pool-needed : k ≡ needed (leastBy (poolOf w)) (poolOf w .whole) g
+  pool-needed = pages-needed ∙ ap (λ (m : ℕ). needed m (poolOf w .whole) g) (sym (written-least (sound-written w sound)))
+
   pages-free : length (freesIn w) ≡ room (poolOf w)
   pages-free = ap length (written-frees (sound-written w sound))
 
   pub crowded-full : length (freesIn w) < k → crowded g (poolOf w) ≡ true
-  crowded-full l = lt-ltb (room (poolOf w)) (needed least (poolOf w .whole) g) (omega (arith, pages-needed, pages-free))
+  crowded-full l = lt-ltb (room (poolOf w)) (needed (leastBy (poolOf w)) (poolOf w .whole) g) (omega (arith, pool-needed, pages-free))
 
   pub crowded-room : k ≤ length (freesIn w) → crowded g (poolOf w) ≡ false
-  crowded-room l = le-ltb (room (poolOf w)) (needed least (poolOf w .whole) g) (omega (arith, pages-needed, pages-free))
+  crowded-room l = le-ltb (room (poolOf w)) (needed (leastBy (poolOf w)) (poolOf w .whole) g) (omega (arith, pool-needed, pages-free))
 
 pub inserts-full : (w ps ss : List ℕ) (e : Entry) (k : ℕ) → Needs w ps k → length (freesIn w) < k → Inserts w ps ss e w inserted.Full
 inserts-full w ps ss e k needs none = record {
@@ -244,5 +247,5 @@ inserts-done w ps ss e k w₁ u w₂ fits many needs enough below topped = recor
     grows : (g : ℕ) → Sound w → g ≤ length (heldBy (poolOf w)) → PathOf (poolOf w .whole .levels) (poolOf w .whole .tree) g ps ss
         → Grows w (poolOf w .whole .levels) (poolOf w .whole .tree) g e w₁ u
     grows g sound b path =
-        below .grows 1 (poolOf w .whole .levels) (poolOf w .whole .tree) g (sound-sits w sound) b path (λ q. omega (arith, sound-written w sound .bits q))
+        below .grows 1 (poolOf w .whole .levels) (poolOf w .whole .tree) g (sound-sits w sound) b path (λ q. omega (arith, written-bits (sound-written w sound) q))
         (omega (arith, needed-run least (poolOf w .whole) g, suffices g sound b path))

@@ -6,16 +6,20 @@ use mathlib.Core.List.{List}
 use Prim.Native.Nat.{_≤_, ℕ, zero, suc, _<_}
 use native.Mathlib.Omega.{arith}
 use lib.ListN.{length-set, length, getD, set}
-use Rattle.model.specs.Layout.{headWords, least, word}
-use Rattle.model.specs.PageMap.{mapOf, bitAt}
-use Rattle.model.specs.Tree.{Entry, Whole, noEntry, held, meets}
-use Rattle.model.specs.Page.{pageOf}
+use Rattle.model.specs.declared.Geometry.{Geometry}
+use Rattle.model.specs.Layout.{headWords, word, today}
+use Rattle.model.specs.Head.{geometryOf}
+use Rattle.model.specs.PageMap.{bitAt}
+use Rattle.model.specs.Tree.{Entry, Whole, noEntry, held, meets, Formed}
 use Rattle.model.specs.Standing.{rootOf, Standing}
 use Rattle.model.specs.Entries.{Cursor, shut, gap}
-use Rattle.model.specs.Pool.{Pool, heldBy, gapIn, withWhole}
+use Rattle.model.specs.Pool.{Pool, heldBy, gapIn, withWhole, leastBy}
 use Rattle.model.specs.Written.{keyIn, Written, headOf}
+use Rattle.lend.specs.Pages.{least, pageIn, mapIn}
 use Rattle.model.proofs.Lists.{getD-tab}
+use Rattle.model.proofs.Lawful.{geometry-same}
 use Rattle.model.proofs.Standing.{standing-frame}
+use Rattle.model.proofs.Right.{Right}
 use Rattle.tree.proofs.Heads.{head-stored, head-map, head-page, stored-word, other-word}
 
 -- ---- the words of the head
@@ -30,6 +34,27 @@ key-stays es es′ (gap (suc g)) h = h g (omega arith)
 pub head-word : {w : List ℕ} {p : Pool} → Written w p → (i : ℕ) → i < 9 → word w i ≡ getD (headOf p) i 0
 head-word {w} {p} a i b = sym (getD-tab 9 (word w) i 0 b) ∙ ap (λ (l : List ℕ). getD l i 0) (a .head)
 
+-- ---- what the words of a pool say, in today's geometry
+
+module _ {w : List ℕ} {p : Pool} (a : Written w p) where
+  pub written-today : p .geometry ≡ today
+  unfolding geometryOf
+  written-today = sym (a .geometry)
+
+  pub written-least : leastBy p ≡ least
+  written-least = ap (λ (γ : Geometry). γ .least) written-today
+
+  pub written-bits : (q : ℕ) → bitAt (mapIn w) q ≡ meets q (p .whole)
+  unfolding geometryOf
+  written-bits = a .bits
+
+  pub written-stands : Standing least (pageIn w) (p .whole .levels) (p .whole .tree)
+  unfolding geometryOf
+  written-stands = a .stands
+
+  pub written-formed : Right p → Formed least (p .whole)
+  written-formed r = rw written-today at (r .formed)
+
 -- ---- another tree
 
 -- of the words w, which hold the pool p, those of the head that tell of the tree are changed: they tell of x
@@ -40,11 +65,15 @@ pub record Leaves (w : List ℕ) (p : Pool) (x : Whole) (w′ : List ℕ) : Type
   pub root : word w′ 3 ≡ rootOf (x .levels) (x .tree)
   pub levels : word w′ 4 ≡ x .levels
   pub key : keyIn (held x) (p .cursor) ≡ keyIn (heldBy p) (p .cursor)
-  pub bits : (q : ℕ) → bitAt (mapOf w′) q ≡ meets q x
-  pub stands : Standing least (pageOf w′) (x .levels) (x .tree)
+  pub bits : (q : ℕ) → bitAt (mapIn w′) q ≡ meets q x
+  pub stands : Standing least (pageIn w′) (x .levels) (x .tree)
 
 pub leaves-written : (w : List ℕ) (p : Pool) (x : Whole) (w′ : List ℕ) → Written w p → Leaves w p x w′ → Written w′ (withWhole p x)
+unfolding geometryOf
 leaves-written w p x w′ a l = record {
+  geometry =
+      geometry-same w′ w (l .words 0 (omega arith) (omega arith) (omega arith) (omega arith)) (l .words 9 (omega arith) (omega arith) (omega arith) (omega arith))
+      ∙ a .geometry;
   long = l .long ∙ a .long;
   head =
       let w₀ : word w′ 0 ≡ word w 0 = l .words 0 (omega arith) (omega arith) (omega arith) (omega arith) in
@@ -65,8 +94,8 @@ pub record Carries (w : List ℕ) (x : Whole) (w′ : List ℕ) : Type 0 where
   pub words : (i : ℕ) → i < headWords → i ≢ 3 → i ≢ 4 → word w′ i ≡ word w i
   pub root : word w′ 3 ≡ rootOf (x .levels) (x .tree)
   pub levels : word w′ 4 ≡ x .levels
-  pub bits : (q : ℕ) → bitAt (mapOf w′) q ≡ meets q x
-  pub stands : Standing least (pageOf w′) (x .levels) (x .tree)
+  pub bits : (q : ℕ) → bitAt (mapIn w′) q ≡ meets q x
+  pub stands : Standing least (pageIn w′) (x .levels) (x .tree)
 
 -- then the count is stored
 pub carries-leaves : (w : List ℕ) (p : Pool) (x : Whole) (w′ : List ℕ) (n : ℕ) → Carries w x w′ → 3 ≤ length w → n ≡ length (held x)
@@ -79,5 +108,5 @@ carries-leaves w p x w′ n c l many key = record {
   levels = other-word w′ 2 n 4 (omega arith) ∙ c .levels;
   key = key;
   bits = λ q. rw (head-map (head-stored w′ 2 n (omega arith))) (c .bits q);
-  stands = standing-frame least (pageOf w′) (pageOf (set w′ 2 n)) (x .levels) (x .tree) (λ q _. sym (head-page (head-stored w′ 2 n (omega arith)) q)) (c .stands);
+  stands = standing-frame least (pageIn w′) (pageIn (set w′ 2 n)) (x .levels) (x .tree) (λ q _. sym (head-page (head-stored w′ 2 n (omega arith)) q)) (c .stands);
 }

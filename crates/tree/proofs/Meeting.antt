@@ -10,7 +10,7 @@ use native.Mathlib.Omega.{arith}
 use lib.ListN.{length, length-append}
 use borrow.Author.Tests.{ltb-true, eqb-true, lt-ltb, le-ltb, eq-eqb, ne-eqb}
 use Rattle.model.specs.Lists.{All, final, sum, every}
-use Rattle.model.specs.Layout.{pagesIn}
+use Rattle.model.specs.Layout.{pagesIn, today}
 use Rattle.model.specs.Head.{kindWord}
 use Rattle.model.specs.Tree.{Entry, noEntry, weave, Rising}
 use Rattle.tree.specs.declared.check.Tally.{Tally}
@@ -28,7 +28,7 @@ pub record Met (es : List Entry) (n k : ℕ) : Type 0 where
 
 -- n pages and the entries xs can follow, `pages` pages and the entries es having been met
 pub record Follows (w : List ℕ) (pages : ℕ) (es : List Entry) (n : ℕ) (xs : List Entry) : Type 0 where
-  pub few : pages + n ≤ pagesIn (length w)
+  pub few : pages + n ≤ pagesIn today (length w)
   pub rising : Rising (es ++ xs)
   pub zeros : kindWord w ≡ 1 → All (λ e. e .value ≡ 0) xs
 
@@ -120,7 +120,7 @@ module _ (w : List ℕ) where
   fits-value v h =
       either-eq (kindWord w) 1 (λ s. rw (eq-eqb (kindWord w) 1 s) (eq-eqb v 0 (h s))) (λ n. rw (ne-eqb (kindWord w) 1 n))
 
-  module _ (e : Entry) (a b k : ℕ) (es : List Entry) (l : a ≤ pagesIn (length w)) (m : Met es b k) where
+  module _ (e : Entry) (a b k : ℕ) (es : List Entry) (l : a ≤ pagesIn today (length w)) (m : Met es b k) where
     entry-follows : every (entryTests w e b k) ≡ true → Follows w a es 0 (e ∷ [])
     entry-follows y =
         let t = every-true (entryTests w e b k) y in
@@ -168,9 +168,9 @@ module _ (w : List ℕ) where
     turn-stop (c ∷ cs) [] = stop c
     turn-stop (c ∷ cs) (e ∷ os) = rw (stop c) (turn-stop cs os)
 
-    module _ (inside : ℕ → List Entry) (size : ℕ → ℕ) (L : ℕ → Type 0) (one : (c a b k : ℕ) (es : List Entry) → a ≤ pagesIn (length w) → Met es b k
+    module _ (inside : ℕ → List Entry) (size : ℕ → ℕ) (L : ℕ → Type 0) (one : (c a b k : ℕ) (es : List Entry) → a ≤ pagesIn today (length w) → Met es b k
         → Goes (L c × Follows w a es (size c) (inside c)) (a + size c) (es ++ inside c) (f c (tally.Of a b k))) where
-      pub turn-goes : (cs : List ℕ) (os : List Entry) (a b k : ℕ) (es : List Entry) → length cs ≡ suc (length os) → a ≤ pagesIn (length w) → Met es b k
+      pub turn-goes : (cs : List ℕ) (os : List Entry) (a b k : ℕ) (es : List Entry) → length cs ≡ suc (length os) → a ≤ pagesIn today (length w) → Met es b k
           → Goes (All L cs × Follows w a es (sum size cs) (weave inside cs os)) (a + sum size cs) (es ++ weave inside cs os)
           (inTurn w f cs os (tally.Of a b k))
       unfolding inTurn overEntry

@@ -12,16 +12,16 @@ use lib.ListN.{length, take, drop, getD, length-map, length-take, length-drop}
 use lib.Seq.{getD-take, getD-drop}
 use borrow.Author.Tests.{le-leb, lt-ltb, ne-eqb}
 use Rattle.model.specs.Lists.{sum, same, All, every}
-use Rattle.model.specs.Layout.{least, pagesIn}
-use Rattle.model.specs.PageMap.{mapOf, bitAt}
+use Rattle.model.specs.Layout.{pagesIn, today}
+use Rattle.model.specs.PageMap.{bitAt}
 use Rattle.model.specs.Tree.{Node, Tree, noNode, times, Filled, Shaped}
-use Rattle.model.specs.Page.{pageOf, countOf}
+use Rattle.model.specs.Page.{countOf}
 use Rattle.model.specs.Standing.{numberOf, Standing}
 use Rattle.model.specs.Mend.{Plan, keep, move, join, plan, nodeAt, count, mend, spare}
 use Rattle.model.specs.Remove.{planAt}
 use Rattle.page.specs.declared.Change.{Change}
 use Rattle.page.specs.Page.{holdsAt, roomAt}
-use Rattle.lend.specs.Pages.{most, areApart, canGive, canGet, canPass, canJoin, MovesIn}
+use Rattle.lend.specs.Pages.{least, most, areApart, canGive, canGet, canPass, canJoin, MovesIn, pageIn, mapIn}
 use Rattle.tree.specs.declared.remove.Mending.the-variants as mending
 use Rattle.tree.specs.declared.search.Below.the-variants as below
 use Rattle.tree.specs.Search.{belowOf}
@@ -62,24 +62,24 @@ loose-child Q m t i forks a j b =
 apart-true : (u l r : ℕ) → u ≢ l → u ≢ r → l ≢ r → every (areApart u l r) ≡ true
 apart-true u l r a b c = simp (ne-eqb u l a, ne-eqb u r b, ne-eqb l r c)
 
-module _ (w : List ℕ) (h : ℕ) (t : Tree (suc (suc h))) (i : ℕ) (stands : Standing least (pageOf w) (suc (suc h)) t)
+module _ (w : List ℕ) (h : ℕ) (t : Tree (suc (suc h))) (i : ℕ) (stands : Standing least (pageIn w) (suc (suc h)) t)
     (forks : length (t .children) ≡ suc (length (t .own))) (few : length (t .own) ≤ most) (loose : Loose (Shaped least least h) least t i)
-    (marked : Marked w (suc (suc h)) t) (inside : (q : ℕ) → 0 < times q (suc (suc h)) t → q < pagesIn (length w)) where
+    (marked : Marked w (suc (suc h)) t) (inside : (q : ℕ) → 0 < times q (suc (suc h)) t → q < pagesIn today (length w)) where
   once : (q : ℕ) → times q (suc (suc h)) t ≤ 1
-  once q = omega (arith, marked q, bitAt-le (mapOf w) q)
+  once q = omega (arith, marked q, bitAt-le (mapIn w) q)
 
   child-below : (j : ℕ) → j ≤ length (t .own) → belowOf w (t .page) j ≡ below.Page ((nodeAt t j) .page)
   child-below j b = child-found w (suc h) t stands forks j b (omega arith) (omega arith) inside
 
   -- a child's count by its own words, and by the page's
-  own-count : (j : ℕ) → j ≤ length (t .own) → countOf (pageOf w ((nodeAt t j) .page)) ≡ count t j
+  own-count : (j : ℕ) → j ≤ length (t .own) → countOf (pageIn w ((nodeAt t j) .page)) ≡ count t j
   own-count j b = root-count w h (nodeAt t j) (child-stands w (suc h) t stands forks j b)
 
   child-count : (j : ℕ) → j ≤ length (t .own) → countBelow w (t .page) j ≡ count t j
   child-count j b = count-found w (t .page) j ((nodeAt t j) .page) (child-below j b) ∙ own-count j b
 
   -- the plan by the words is the plan of the tree
-  plan-is : plan least (countOf (pageOf w (t .page))) (countBelow w (t .page)) i ≡ planAt least h t i
+  plan-is : plan least (countOf (pageIn w (t .page))) (countBelow w (t .page)) i ≡ planAt least h t i
   plan-is = rw (root-count w (suc h) t stands) (plan-same least (length (t .own)) (countBelow w (t .page)) (count t) child-count i (loose .inside))
 
   able : (p : Plan) → p ≡ planAt least h t i → Able (Shaped least least h) least t p
@@ -99,17 +99,17 @@ module _ (w : List ℕ) (h : ℕ) (t : Tree (suc (suc h))) (i : ℕ) (stands : S
         let u : ℕ = t .page in
         let l : ℕ = (nodeAt t j) .page in
         let r : ℕ = (nodeAt t (suc j)) .page in
-        let cu : countOf (pageOf w u) ≡ length (t .own) = root-count w (suc h) t stands in
-        let cl : countOf (pageOf w l) ≡ count t j = own-count j (omega arith) in
-        let cr : countOf (pageOf w r) ≡ count t (suc j) = own-count (suc j) b in
+        let cu : countOf (pageIn w u) ≡ length (t .own) = root-count w (suc h) t stands in
+        let cl : countOf (pageIn w l) ≡ count t j = own-count j (omega arith) in
+        let cr : countOf (pageIn w r) ≡ count t (suc j) = own-count (suc j) b in
         let many : count t j ≤ most = a .0 .left .many in
-        every-all (every (areApart u l r) ∷ holdsAt most (pageOf w u) j 0 ∷ holdsAt most (pageOf w l) (countOf (pageOf w l) - 1) (countOf (pageOf w l)) ∷ roomAt most (pageOf w r) 0 0 ∷ []) (
+        every-all (every (areApart u l r) ∷ holdsAt most (pageIn w u) j 0 ∷ holdsAt most (pageIn w l) (countOf (pageIn w l) - 1) (countOf (pageIn w l)) ∷ roomAt most (pageIn w r) 0 0 ∷ []) (
           three-apart,
           (
-            holds-at most (pageOf w u) j 0 (omega arith) (omega arith) (omega arith),
+            holds-at most (pageIn w u) j 0 (omega arith) (omega arith) (omega arith),
             (
-              holds-at most (pageOf w l) (countOf (pageOf w l) - 1) (countOf (pageOf w l)) (omega arith) (omega arith) (omega arith),
-              (room-at most (pageOf w r) 0 0 (omega arith) (omega arith) (omega arith) (omega arith), tt),
+              holds-at most (pageIn w l) (countOf (pageIn w l) - 1) (countOf (pageIn w l)) (omega arith) (omega arith) (omega arith),
+              (room-at most (pageIn w r) 0 0 (omega arith) (omega arith) (omega arith) (omega arith), tt),
             ),
           ),
         )
@@ -120,18 +120,18 @@ module _ (w : List ℕ) (h : ℕ) (t : Tree (suc (suc h))) (i : ℕ) (stands : S
         let u : ℕ = t .page in
         let l : ℕ = (nodeAt t j) .page in
         let r : ℕ = (nodeAt t (suc j)) .page in
-        let cu : countOf (pageOf w u) ≡ length (t .own) = root-count w (suc h) t stands in
-        let cl : countOf (pageOf w l) ≡ count t j = own-count j (omega arith) in
-        let cr : countOf (pageOf w r) ≡ count t (suc j) = own-count (suc j) b in
+        let cu : countOf (pageIn w u) ≡ length (t .own) = root-count w (suc h) t stands in
+        let cl : countOf (pageIn w l) ≡ count t j = own-count j (omega arith) in
+        let cr : countOf (pageIn w r) ≡ count t (suc j) = own-count (suc j) b in
         let many : count t (suc j) ≤ most = a .0 .right .many in
         let n = pair-apart h t j (omega arith) once in
-        every-all (every (areApart u r l) ∷ holdsAt most (pageOf w u) j 0 ∷ holdsAt most (pageOf w r) 0 0 ∷ roomAt most (pageOf w l) (countOf (pageOf w l)) (suc (countOf (pageOf w l))) ∷ []) (
+        every-all (every (areApart u r l) ∷ holdsAt most (pageIn w u) j 0 ∷ holdsAt most (pageIn w r) 0 0 ∷ roomAt most (pageIn w l) (countOf (pageIn w l)) (suc (countOf (pageIn w l))) ∷ []) (
           apart-true u r l (n .1) (n .0) (λ e. n .2 (sym e)),
           (
-            holds-at most (pageOf w u) j 0 (omega arith) (omega arith) (omega arith),
+            holds-at most (pageIn w u) j 0 (omega arith) (omega arith) (omega arith),
             (
-              holds-at most (pageOf w r) 0 0 (omega arith) (omega arith) (omega arith),
-              (room-at most (pageOf w l) (countOf (pageOf w l)) (suc (countOf (pageOf w l))) (omega arith) (omega arith) (omega arith) (omega arith), tt),
+              holds-at most (pageIn w r) 0 0 (omega arith) (omega arith) (omega arith),
+              (room-at most (pageIn w l) (countOf (pageIn w l)) (suc (countOf (pageIn w l))) (omega arith) (omega arith) (omega arith) (omega arith), tt),
             ),
           ),
         )
@@ -142,18 +142,18 @@ module _ (w : List ℕ) (h : ℕ) (t : Tree (suc (suc h))) (i : ℕ) (stands : S
         let u : ℕ = t .page in
         let l : ℕ = (nodeAt t j) .page in
         let r : ℕ = (nodeAt t (suc j)) .page in
-        let cu : countOf (pageOf w u) ≡ length (t .own) = root-count w (suc h) t stands in
-        let cl : countOf (pageOf w l) ≡ count t j = own-count j (omega arith) in
-        let cr : countOf (pageOf w r) ≡ count t (suc j) = own-count (suc j) b in
+        let cu : countOf (pageIn w u) ≡ length (t .own) = root-count w (suc h) t stands in
+        let cl : countOf (pageIn w l) ≡ count t j = own-count j (omega arith) in
+        let cr : countOf (pageIn w r) ≡ count t (suc j) = own-count (suc j) b in
         let some-left : 3 ≤ count t j = loose-child (Shaped least least h) least t i forks loose j (omega arith) .few in
         let some-right : 3 ≤ count t (suc j) = loose-child (Shaped least least h) least t i forks loose (suc j) b .few in
-        every-all (every (areApart u l r) ∷ holdsAt most (pageOf w u) j (suc j) ∷ leb 1 (countOf (pageOf w l)) ∷ leb 1 (countOf (pageOf w r)) ∷ ltb (countOf (pageOf w l) + countOf (pageOf w r)) most ∷ []) (
+        every-all (every (areApart u l r) ∷ holdsAt most (pageIn w u) j (suc j) ∷ leb 1 (countOf (pageIn w l)) ∷ leb 1 (countOf (pageIn w r)) ∷ ltb (countOf (pageIn w l) + countOf (pageIn w r)) most ∷ []) (
           three-apart,
           (
-            holds-at most (pageOf w u) j (suc j) (omega arith) (omega arith) (omega arith),
+            holds-at most (pageIn w u) j (suc j) (omega arith) (omega arith) (omega arith),
             (
-              le-leb 1 (countOf (pageOf w l)) (omega arith),
-              (le-leb 1 (countOf (pageOf w r)) (omega arith), (lt-ltb (countOf (pageOf w l) + countOf (pageOf w r)) most (omega arith), tt)),
+              le-leb 1 (countOf (pageIn w l)) (omega arith),
+              (le-leb 1 (countOf (pageIn w r)) (omega arith), (lt-ltb (countOf (pageIn w l) + countOf (pageIn w r)) most (omega arith), tt)),
             ),
           ),
         )
@@ -169,8 +169,8 @@ module _ (w : List ℕ) (h : ℕ) (t : Tree (suc (suc h))) (i : ℕ) (stands : S
   kept-mended : keep ≡ planAt least h t i → Mended h t i w w
   unfolding mend spare
   kept-mended e = record {
-    stands = subst (λ (p : Plan). Standing least (pageOf w) (suc (suc h)) (mend p t)) e stands;
-    bits = λ q. subst (λ (p : Plan). bitAt (mapOf w) q + sum (same q) (spare p t) ≡ bitAt (mapOf w) q) e (omega arith);
+    stands = subst (λ (p : Plan). Standing least (pageIn w) (suc (suc h)) (mend p t)) e stands;
+    bits = λ q. subst (λ (p : Plan). bitAt (mapIn w) q + sum (same q) (spare p t) ≡ bitAt (mapIn w) q) e (omega arith);
     touches = touches-none (t .page ∷ map (numberOf (suc h)) (near i (t .children))) refl;
   }
 
@@ -181,8 +181,8 @@ module _ (w : List ℕ) (h : ℕ) (t : Tree (suc (suc h))) (i : ℕ) (stands : S
       let b : j < length (t .own) = able (move j n) e .0 .inside in
       let s = acts (move j n) e in
       record {
-        stands = subst (λ (p : Plan). Standing least (pageOf w′) (suc (suc h)) (mend p t)) e (moved-stands w h t stands forks once j b n m);
-        bits = λ q. subst (λ (p : Plan). bitAt (mapOf w′) q + sum (same q) (spare p t) ≡ bitAt (mapOf w) q) e (omega (arith, ap (λ (ws : List ℕ). bitAt ws q) (only-map (m .only))));
+        stands = subst (λ (p : Plan). Standing least (pageIn w′) (suc (suc h)) (mend p t)) e (moved-stands w h t stands forks once j b n m);
+        bits = λ q. subst (λ (p : Plan). bitAt (mapIn w′) q + sum (same q) (spare p t) ≡ bitAt (mapIn w) q) e (omega (arith, ap (λ (ws : List ℕ). bitAt ws q) (only-map (m .only))));
         touches = touches-wider (t .page ∷ map (numberOf (suc h)) (near i (t .children))) (only-touches (m .only))
             (λ q a. let two = near-two j b (s .0) (s .1) q (a .1) in (a .0, (two .0, (two .1, tt))));
       }
@@ -193,12 +193,12 @@ module _ (w : List ℕ) (h : ℕ) (t : Tree (suc (suc h))) (i : ℕ) (stands : S
       let b : j < length (t .own) = able (join j) e .0 .inside in
       let s = acts (join j) e in
       let r : ℕ = (nodeAt t (suc j)) .page in
-      let taken : bitAt (mapOf w) r ≡ 1 = omega (arith, marked r, bitAt-le (mapOf w) r, pair-met h t j r (omega arith), same-self r) in
-      let place : r / 64 < length (mapOf w) = either-lt r (64 * length (mapOf w)) (λ l. omega arith) (λ l. absurd (omega (arith, bitAt-past (mapOf w) r l))) in
+      let taken : bitAt (mapIn w) r ≡ 1 = omega (arith, marked r, bitAt-le (mapIn w) r, pair-met h t j r (omega arith), same-self r) in
+      let place : r / 64 < length (mapIn w) = either-lt r (64 * length (mapIn w)) (λ l. omega arith) (λ l. absurd (omega (arith, bitAt-past (mapIn w) r l))) in
       record {
-        stands = subst (λ (p : Plan). Standing least (pageOf w′) (suc (suc h)) (mend p t)) e (joined-stands w h t stands forks once j b m);
-        bits = λ q. subst (λ (p : Plan). bitAt (mapOf w′) q + sum (same q) (spare p t) ≡ bitAt (mapOf w) q) e
-            (omega (arith, ap (λ (ws : List ℕ). bitAt ws q) (m .map), clear-bits (mapOf w) r place taken q));
+        stands = subst (λ (p : Plan). Standing least (pageIn w′) (suc (suc h)) (mend p t)) e (joined-stands w h t stands forks once j b m);
+        bits = λ q. subst (λ (p : Plan). bitAt (mapIn w′) q + sum (same q) (spare p t) ≡ bitAt (mapIn w) q) e
+            (omega (arith, ap (λ (ws : List ℕ). bitAt ws q) (m .map), clear-bits (mapIn w) r place taken q));
         touches = touches-wider (t .page ∷ map (numberOf (suc h)) (near i (t .children))) (m .touches)
             (λ q a. let two = near-two j b (s .0) (s .1) q (a .1) in (a .0, (two .0, tt)));
       }

@@ -5,12 +5,11 @@ use mathlib.Core.Path.{_≡_, refl, ap, subst₂, _∙_}
 use mathlib.Core.Bool.{Bool, true}
 use mathlib.Core.List.{List}
 use Prim.Native.Nat.{ℕ, suc}
-use Rattle.model.specs.PageMap.{mapOf}
 use Rattle.pagemap.specs.Bits.{clearBit}
 use Rattle.page.specs.declared.Change.{Change}
 use Rattle.page.specs.declared.Change.the-variants as change
 use Rattle.page.specs.Page.{did}
-use Rattle.lend.specs.Pages.{MovesIn, canJoin, JoinsIn}
+use Rattle.lend.specs.Pages.{MovesIn, canJoin, JoinsIn, mapIn}
 use Rattle.lend.specs.Touches.{MapBecomes}
 use Rattle.tree.specs.declared.search.Below.the-variants as below
 use Rattle.tree.specs.Search.{belowOf}
@@ -63,7 +62,7 @@ module _ (u j : ℕ) (w : List ℕ) where
           never (cc);
     }
 
-    pub joins-freed : {w₂ : List ℕ} → a ≡ change.Done → MapBecomes (clearBit (mapOf w₁) r) w₁ w₂ → JoinsBelow u j w w₂
+    pub joins-freed : {w₂ : List ℕ} → a ≡ change.Done → MapBecomes (clearBit (mapIn w₁) r) w₁ w₂ → JoinsBelow u j w w₂
     joins-freed {w₂} done m =
         let touches = touches-then (only-touches (c .only)) (m .keeps) in
         record {

@@ -10,14 +10,12 @@ use native.Mathlib.Omega.{arith}
 use lib.ListN.{length, take, drop, getD, set}
 use lib.Seq.{set-split, take-suc}
 use Rattle.model.specs.Lists.{del, sum, same, All}
-use Rattle.model.specs.Layout.{least}
 use Rattle.model.specs.Tree.{Entry, Tree, noEntry, noNode, times}
-use Rattle.model.specs.Page.{pageOf}
 use Rattle.model.specs.Standing.{numberOf, Standing}
 use Rattle.model.specs.Insert.{cutLeft, cutRight}
 use Rattle.model.specs.Mend.{move, join, nodeAt, pair, mend}
 use Rattle.page.specs.declared.Change.{Change}
-use Rattle.lend.specs.Pages.{glued, MovesIn}
+use Rattle.lend.specs.Pages.{least, glued, MovesIn, pageIn}
 use Rattle.tree.specs.Remove.{Joined}
 use Rattle.model.proofs.Cases.{same-self, same-zero}
 use Rattle.model.proofs.Lists.{split-two, all-append, all-take, all-drop, map-del}
@@ -61,12 +59,12 @@ module _ (h : ℕ) (t : Tree (suc (suc h))) (j : ℕ) (b : suc j < length (t .ch
     same-zero q ((nodeAt t (suc j)) .page) (omega (arith, once q, pair-met h t j q b)),
   )
 
-module _ (w : List ℕ) (h : ℕ) (t : Tree (suc (suc h))) (stands : Standing least (pageOf w) (suc (suc h)) t)
+module _ (w : List ℕ) (h : ℕ) (t : Tree (suc (suc h))) (stands : Standing least (pageIn w) (suc (suc h)) t)
     (forks : length (t .children) ≡ suc (length (t .own))) (once : (q : ℕ) → times q (suc (suc h)) t ≤ 1) (j : ℕ) (inside : j < length (t .own)) where
-  left-stands : Standing least (pageOf w) (suc h) (nodeAt t j)
+  left-stands : Standing least (pageIn w) (suc h) (nodeAt t j)
   left-stands = child-stands w (suc h) t stands forks j (omega arith)
 
-  right-stands : Standing least (pageOf w) (suc h) (nodeAt t (suc j))
+  right-stands : Standing least (pageIn w) (suc h) (nodeAt t (suc j))
   right-stands = child-stands w (suc h) t stands forks (suc j) inside
 
   glued-says : Says h (numberOf h) (glued w (t .page) j ((nodeAt t j) .page) ((nodeAt t (suc j)) .page)) (pair t j)
@@ -91,36 +89,36 @@ module _ (w : List ℕ) (h : ℕ) (t : Tree (suc (suc h))) (stands : Standing le
 
   -- all that hangs around and below the two
   module _ (w′ : List ℕ)
-      (kept : (q : ℕ) → q ≢ t .page → q ≢ (nodeAt t j) .page → q ≢ (nodeAt t (suc j)) .page → pageOf w′ q ≡ pageOf w q) where
-    kept-around : (q : ℕ) → 0 < around h t j q → pageOf w q ≡ pageOf w′ q
+      (kept : (q : ℕ) → q ≢ t .page → q ≢ (nodeAt t j) .page → q ≢ (nodeAt t (suc j)) .page → pageIn w′ q ≡ pageIn w q) where
+    kept-around : (q : ℕ) → 0 < around h t j q → pageIn w q ≡ pageIn w′ q
     kept-around q l = let s = pair-spared h t j (omega arith) once q l in sym (kept q (s .0) (s .1) (s .2))
 
-    before-stands : All (Standing least (pageOf w′) (suc h)) (take j (t .children))
+    before-stands : All (Standing least (pageIn w′) (suc h)) (take j (t .children))
     before-stands =
-        all-standing least (pageOf w) (pageOf w′) (suc h) (take j (t .children)) (λ q l. kept-around q (omega arith))
-        (all-take (Standing least (pageOf w) (suc h)) j (t .children) (root-below w (suc h) t stands))
+        all-standing least (pageIn w) (pageIn w′) (suc h) (take j (t .children)) (λ q l. kept-around q (omega arith))
+        (all-take (Standing least (pageIn w) (suc h)) j (t .children) (root-below w (suc h) t stands))
 
-    after-stands : All (Standing least (pageOf w′) (suc h)) (drop (suc (suc j)) (t .children))
+    after-stands : All (Standing least (pageIn w′) (suc h)) (drop (suc (suc j)) (t .children))
     after-stands =
-        all-standing least (pageOf w) (pageOf w′) (suc h) (drop (suc (suc j)) (t .children)) (λ q l. kept-around q (omega arith))
-        (all-drop (Standing least (pageOf w) (suc h)) (suc (suc j)) (t .children) (root-below w (suc h) t stands))
+        all-standing least (pageIn w) (pageIn w′) (suc h) (drop (suc (suc j)) (t .children)) (λ q l. kept-around q (omega arith))
+        (all-drop (Standing least (pageIn w) (suc h)) (suc (suc j)) (t .children) (root-below w (suc h) t stands))
 
-    under-stands : All (Standing least (pageOf w′) h) ((pair t j) .children)
+    under-stands : All (Standing least (pageIn w′) h) ((pair t j) .children)
     under-stands =
-        all-append (Standing least (pageOf w′) h) ((nodeAt t j) .children) ((nodeAt t (suc j)) .children)
-        (all-standing least (pageOf w) (pageOf w′) h ((nodeAt t j) .children) (λ q l. kept-around q (omega arith)) (root-below w h (nodeAt t j) left-stands))
-        (all-standing least (pageOf w) (pageOf w′) h ((nodeAt t (suc j)) .children) (λ q l. kept-around q (omega arith)) (root-below w h (nodeAt t (suc j)) right-stands))
+        all-append (Standing least (pageIn w′) h) ((nodeAt t j) .children) ((nodeAt t (suc j)) .children)
+        (all-standing least (pageIn w) (pageIn w′) h ((nodeAt t j) .children) (λ q l. kept-around q (omega arith)) (root-below w h (nodeAt t j) left-stands))
+        (all-standing least (pageIn w) (pageIn w′) h ((nodeAt t (suc j)) .children) (λ q l. kept-around q (omega arith)) (root-below w h (nodeAt t (suc j)) right-stands))
 
   -- one entry moved
   pub moved-stands : (n : ℕ) {w′ : List ℕ} {a : Change} → MovesIn (t .page) j ((nodeAt t j) .page) ((nodeAt t (suc j)) .page) n true w w′ a
-      → Standing least (pageOf w′) (suc (suc h)) (mend (move j n) t)
+      → Standing least (pageIn w′) (suc (suc h)) (mend (move j n) t)
   unfolding Standing mend
   moved-stands n {w′} m =
       let l : Tree (suc h) = nodeAt t j in
       let r : Tree (suc h) = nodeAt t (suc j) in
       let x : Tree (suc h) = cutLeft n (pair t j) in
       let y : Tree (suc h) = cutRight (r .page) n (pair t j) in
-      let kept : (q : ℕ) → q ≢ t .page → q ≢ l .page → q ≢ r .page → pageOf w′ q ≡ pageOf w q = λ q nu nl nr. m .only .others q (nu, (nl, (nr, tt))) in
+      let kept : (q : ℕ) → q ≢ t .page → q ≢ l .page → q ≢ r .page → pageIn w′ q ≡ pageIn w q = λ q nu nl nr. m .only .others q (nu, (nl, (nr, tt))) in
       let root = root-holds w (suc h) t stands in
       let top = rw (root .height) at (m .above refl) in
       let under = under-stands w′ kept in (
@@ -131,15 +129,15 @@ module _ (w : List ℕ) (h : ℕ) (t : Tree (suc (suc h))) (stands : Standing le
               ∙ set-split (t .own) j (getD ((pair t j) .own) n noEntry) inside;
           children = λ p. top .children p ∙ root .children p ∙ numbers-two x y refl refl;
         },
-        all-append (Standing least (pageOf w′) (suc h)) (take j (t .children)) (x ∷ y ∷ drop (suc (suc j)) (t .children)) (before-stands w′ kept) (
+        all-append (Standing least (pageIn w′) (suc h)) (take j (t .children)) (x ∷ y ∷ drop (suc (suc j)) (t .children)) (before-stands w′ kept) (
           (
             says-holds h (numberOf h) (says-left h (numberOf h) n glued-says) (rw (root-holds w h l left-stands .height) at (m .left refl)),
-            all-take (Standing least (pageOf w′) h) (suc n) ((pair t j) .children) under,
+            all-take (Standing least (pageIn w′) h) (suc n) ((pair t j) .children) under,
           ),
           (
             (
               says-holds h (numberOf h) (says-right h (numberOf h) (r .page) n glued-says) (rw (root-holds w h r right-stands .height) at (m .right refl)),
-              all-drop (Standing least (pageOf w′) h) (suc n) ((pair t j) .children) under,
+              all-drop (Standing least (pageIn w′) h) (suc n) ((pair t j) .children) under,
             ),
             after-stands w′ kept,
           ),
@@ -148,12 +146,12 @@ module _ (w : List ℕ) (h : ℕ) (t : Tree (suc (suc h))) (stands : Standing le
 
   -- the two joined
   pub joined-stands : {w′ : List ℕ} → Joined (t .page) j ((nodeAt t j) .page) ((nodeAt t (suc j)) .page) w w′
-      → Standing least (pageOf w′) (suc (suc h)) (mend (join j) t)
+      → Standing least (pageIn w′) (suc (suc h)) (mend (join j) t)
   unfolding Standing mend
   joined-stands {w′} m =
       let l : Tree (suc h) = nodeAt t j in
       let r : Tree (suc h) = nodeAt t (suc j) in
-      let kept : (q : ℕ) → q ≢ t .page → q ≢ l .page → q ≢ r .page → pageOf w′ q ≡ pageOf w q = λ q nu nl nr. m .touches .others q (nu, (nl, tt)) in
+      let kept : (q : ℕ) → q ≢ t .page → q ≢ l .page → q ≢ r .page → pageIn w′ q ≡ pageIn w q = λ q nu nl nr. m .touches .others q (nu, (nl, tt)) in
       let root = root-holds w (suc h) t stands in
       let top = rw (root .height) at (m .above) in (
         record {
@@ -161,7 +159,7 @@ module _ (w : List ℕ) (h : ℕ) (t : Tree (suc (suc h))) (stands : Standing le
           own = top .own ∙ ap (del j) (root .own);
           children = λ p. top .children p ∙ ap (del (suc j)) (root .children p) ∙ sym (map-del (numberOf (suc h)) (suc j) (t .children)) ∙ numbers-one (pair t j) refl;
         },
-        all-append (Standing least (pageOf w′) (suc h)) (take j (t .children)) (pair t j ∷ drop (suc (suc j)) (t .children)) (before-stands w′ kept) (
+        all-append (Standing least (pageIn w′) (suc h)) (take j (t .children)) (pair t j ∷ drop (suc (suc j)) (t .children)) (before-stands w′ kept) (
           (says-holds h (numberOf h) glued-says (rw (root-holds w h l left-stands .height) at (m .left)), under-stands w′ kept),
           after-stands w′ kept,
         ),

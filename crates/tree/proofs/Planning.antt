@@ -5,15 +5,15 @@ use mathlib.Core.List.{List}
 use Prim.Native.Nat.{ℕ, zero, suc, _-_, _≤_, _<_}
 use native.Mathlib.Omega.{arith}
 use borrow.Author.Tests.{lt-ltb, le-ltb, le-leb, lt-leb}
-use Rattle.model.specs.Layout.{least}
-use Rattle.model.specs.Page.{pageOf, countOf}
+use Rattle.model.specs.Page.{countOf}
 use Rattle.model.specs.Mend.{Plan, keep, move, join, fromRight, repair, plan}
+use Rattle.lend.specs.Pages.{least, pageIn}
 use Rattle.tree.specs.declared.search.Below.the-variants as below
 use Rattle.tree.specs.Search.{belowOf}
 use Rattle.tree.specs.Remove.{countBy, countBelow}
 use Rattle.model.proofs.Cases.{either-le, either-lt}
 
-pub count-found : (w : List ℕ) (u at c : ℕ) → belowOf w u at ≡ below.Page c → countBelow w u at ≡ countOf (pageOf w c)
+pub count-found : (w : List ℕ) (u at c : ℕ) → belowOf w u at ≡ below.Page c → countBelow w u at ≡ countOf (pageIn w c)
 count-found w u at c e = ap (countBy w) e
 
 pub count-lost : (w : List ℕ) (u at : ℕ) → belowOf w u at ≡ below.Unsound → countBelow w u at ≡ 0
@@ -113,5 +113,5 @@ module _ (m n : ℕ) (count : ℕ → ℕ) where
       either-le m (count i) (λ h. rw (le-leb m (count i) h) tt) (λ h. rw (lt-leb m (count i) h) (repair-acts i))
 
 -- the place of the two, on any words
-pub plans-place : (w : List ℕ) (u i : ℕ) (p : Plan) → p ≡ plan least (countOf (pageOf w u)) (countBelow w u) i → Acts i p
-plans-place w u i p e = subst (Acts i) (sym e) (plan-acts least (countOf (pageOf w u)) (countBelow w u) i)
+pub plans-place : (w : List ℕ) (u i : ℕ) (p : Plan) → p ≡ plan least (countOf (pageIn w u)) (countBelow w u) i → Acts i p
+plans-place w u i p e = subst (Acts i) (sym e) (plan-acts least (countOf (pageIn w u)) (countBelow w u) i)

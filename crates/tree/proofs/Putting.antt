@@ -9,17 +9,16 @@ use native.Mathlib.Numerals.{add-one}
 use native.Mathlib.Omega.{arith}
 use lib.ListN.{length}
 use borrow.Author.Tests.{ne-eqb}
-use Rattle.model.specs.Layout.{pagesIn}
-use Rattle.model.specs.PageMap.{mapOf}
+use Rattle.model.specs.Layout.{pagesIn, today}
 use Rattle.model.specs.Tree.{Entry}
-use Rattle.model.specs.Page.{pageOf, countOf}
+use Rattle.model.specs.Page.{countOf}
 use Rattle.pagemap.specs.declared.Lowest.the-variants as lowest
 use Rattle.pagemap.specs.Lowest.{firstOf, took}
 use Rattle.page.specs.declared.Change.{Change}
 use Rattle.page.specs.declared.Parting.the-variants as parting
 use Rattle.page.specs.Node.{more, wider}
 use Rattle.page.specs.Page.{roomAt}
-use Rattle.lend.specs.Pages.{most, Inside, nodeIn, ChangesIn, canSplit, SplitsIn}
+use Rattle.lend.specs.Pages.{most, Inside, nodeIn, ChangesIn, canSplit, SplitsIn, pageIn, mapIn}
 use Rattle.lend.specs.Touches.{Sized, MapBecomes}
 use Rattle.tree.specs.declared.insert.Up.the-variants as up
 use Rattle.tree.specs.Insert.{freesIn, Puts}
@@ -30,19 +29,19 @@ use Rattle.lend.proofs.Touching.{only-touches, only-map}
 
 module _ (w : List ℕ) (p slot : ℕ) (e : Entry) (child : ℕ) where
   -- the page has room
-  pub puts-room : {w′ : List ℕ} {r : Change} → countOf (pageOf w p) < most
-      → ChangesIn p (roomAt most (pageOf w p) slot (slot + 1)) (more slot e (slot + 1) child (nodeIn w p)) w w′ r → Puts p slot e child w w′ up.Whole
+  pub puts-room : {w′ : List ℕ} {r : Change} → countOf (pageIn w p) < most
+      → ChangesIn p (roomAt most (pageIn w p) slot (slot + 1)) (more slot e (slot + 1) child (nodeIn w p)) w w′ r → Puts p slot e child w w′ up.Whole
   puts-room {w′} {r} few c =
-      let c′ : ChangesIn p (roomAt most (pageOf w p) slot (suc slot)) (wider slot e child (nodeIn w p)) w w′ r = rw (add-one slot) at c in
+      let c′ : ChangesIn p (roomAt most (pageIn w p) slot (suc slot)) (wider slot e child (nodeIn w p)) w w′ r = rw (add-one slot) at c in
       record {
         long = c′ .only .long;
         head = only-touches (c′ .only) .head;
-        fits = λ some few′ low. record { answer = refl; holds = c′ .holds (room-at most (pageOf w p) slot (suc slot) some few low (omega arith)); only = c′ .only };
+        fits = λ some few′ low. record { answer = refl; holds = c′ .holds (room-at most (pageIn w p) slot (suc slot) some few low (omega arith)); only = c′ .only };
         parts = λ q full low free apart. absurd (omega arith);
       }
 
   -- the page is full, and no page is free
-  pub puts-none : {w′ : List ℕ} → most ≤ countOf (pageOf w p) → firstOf (freesIn w) ≡ lowest.None → MapBecomes (mapOf w) w w′ → Puts p slot e child w w′ up.Whole
+  pub puts-none : {w′ : List ℕ} → most ≤ countOf (pageIn w p) → firstOf (freesIn w) ≡ lowest.None → MapBecomes (mapIn w) w w′ → Puts p slot e child w w′ up.Whole
   puts-none full none c = record {
     long = c .keeps .long;
     head = c .keeps .head;
@@ -51,19 +50,19 @@ module _ (w : List ℕ) (p slot : ℕ) (e : Entry) (child : ℕ) where
   }
 
   -- the page is full, and page q is taken
-  module _ {w₁ : List ℕ} (q : ℕ) (full : most ≤ countOf (pageOf w p)) (free : firstOf (freesIn w) ≡ lowest.Page q)
-      (c : MapBecomes (took (mapOf w) (lowest.Page q)) w w₁) where
+  module _ {w₁ : List ℕ} (q : ℕ) (full : most ≤ countOf (pageIn w p)) (free : firstOf (freesIn w) ≡ lowest.Page q)
+      (c : MapBecomes (took (mapIn w) (lowest.Page q)) w w₁) where
     pub puts-inside : Sized w → Inside q w₁
     puts-inside z =
-        let is = lowest-is (mapOf w) (pagesIn (length w)) q free in
+        let is = lowest-is (mapIn w) (pagesIn today (length w)) q free in
         omega (arith, is .0, c .keeps .long)
 
-    kept : pageOf w₁ p ≡ pageOf w p
+    kept : pageIn w₁ p ≡ pageIn w p
     kept = c .keeps .others p tt
 
-    can-split : p ≢ q → countOf (pageOf w p) ≡ most → slot ≤ most → canSplit w₁ p q slot ≡ true
+    can-split : p ≢ q → countOf (pageIn w p) ≡ most → slot ≤ most → canSplit w₁ p q slot ≡ true
     unfolding canSplit
-    can-split apart count low = rw (ne-eqb p q apart, kept, full-at most (pageOf w p) slot count low)
+    can-split apart count low = rw (ne-eqb p q apart, kept, full-at most (pageIn w p) slot count low)
 
     pub puts-split : {w₂ : List ℕ} (k v : ℕ) → SplitsIn p q (canSplit w₁ p q slot) (wider slot e child (nodeIn w₁ p)) w₁ w₂ (parting.Up k v) → Puts p slot e child w w₂ (up.Split k v q)
     puts-split {w₂} k v d = record {

@@ -10,11 +10,11 @@ use native.Mathlib.Omega.{arith}
 use lib.ListN.{length, take, getD, set, length-set}
 use borrow.Author.Tests.{le-leb, lt-leb}
 use Rattle.model.specs.Lists.{All, sum, same, del}
-use Rattle.model.specs.Layout.{least, headWords, pagesIn, word}
+use Rattle.model.specs.Layout.{headWords, pagesIn, word, today}
 use Rattle.model.specs.Head.{countWord, levelsWord, headed}
-use Rattle.model.specs.PageMap.{mapOf, bitAt}
+use Rattle.model.specs.PageMap.{bitAt}
 use Rattle.model.specs.Tree.{entries, Entry, noEntry, noTree, Tree, held, meets, times, size}
-use Rattle.model.specs.Page.{pageOf, countOf}
+use Rattle.model.specs.Page.{countOf}
 use Rattle.model.specs.Standing.{rootOf, numberOf, Standing}
 use Rattle.model.specs.Gap.{child}
 use Rattle.model.specs.Remove.{removeAt, freedAt, collapse, removeIn, remove}
@@ -22,6 +22,7 @@ use Rattle.model.specs.Pool.{heldBy, poolOf}
 use Rattle.model.specs.Sound.{Sound}
 use Rattle.page.specs.declared.Change.the-variants as change
 use Rattle.lend.specs.Touches.{Sized}
+use Rattle.lend.specs.Pages.{least, pageIn, mapIn}
 use Rattle.tree.specs.declared.remove.Gone.{Gone}
 use Rattle.tree.specs.Sits.{PathOf, Sits, AtEntry}
 use Rattle.tree.specs.Remove.{nearIn, RemovesBelow, CanRemove, Lowered, Lowers, Removes}
@@ -43,20 +44,20 @@ use Rattle.tree.proofs.Saying.{root-count, child-found}
 use Rattle.tree.proofs.Sitting.{sound-sits}
 use Rattle.tree.proofs.Paths.{first-page}
 use Rattle.tree.proofs.Heads.{head-page, head-stored}
-use Rattle.tree.proofs.Leaving.{head-word, key-stays, Carries, carries-leaves, leaves-written}
+use Rattle.tree.proofs.Leaving.{head-word, key-stays, Carries, carries-leaves, leaves-written, written-least, written-bits, written-formed}
 
 -- ---- a root left without entries
 
-lower-to : (w w′ : List ℕ) (h : ℕ) (t : Tree (suc h)) → Standing least (pageOf w) (suc h) t → length (t .children) ≡ suc (length (t .own))
-    → ((q : ℕ) → 0 < times q (suc h) t → q < pagesIn (length w)) → countOf (pageOf w (t .page)) ≡ 0 → Lowers (t .page) (suc h) w w′
+lower-to : (w w′ : List ℕ) (h : ℕ) (t : Tree (suc h)) → Standing least (pageIn w) (suc h) t → length (t .children) ≡ suc (length (t .own))
+    → ((q : ℕ) → 0 < times q (suc h) t → q < pagesIn today (length w)) → countOf (pageIn w (t .page)) ≡ 0 → Lowers (t .page) (suc h) w w′
     → Lowered (rootOf h (child h t 0)) h (t .page) w w′
 lower-to w w′ zero t stands forks inside none l = l .empties none refl
 lower-to w w′ (suc h) t stands forks inside none l =
     let e : suc (suc h) - 1 ≡ suc h = omega arith in
     rw e at (l .lowers none (omega arith) (numberOf (suc h) (child (suc h) t 0)) (child-found w (suc h) t stands forks 0 (omega arith) (omega arith) (omega arith) inside))
 
-module _ (w₁ w₂ : List ℕ) (h : ℕ) (t : Tree (suc h)) (stands : Standing least (pageOf w₁) (suc h) t) (forks : length (t .children) ≡ suc (length (t .own)))
-    (inside : (q : ℕ) → 0 < times q (suc h) t → q < pagesIn (length w₁)) (lowers : Lowers (t .page) (suc h) w₁ w₂) where
+module _ (w₁ w₂ : List ℕ) (h : ℕ) (t : Tree (suc h)) (stands : Standing least (pageIn w₁) (suc h) t) (forks : length (t .children) ≡ suc (length (t .own)))
+    (inside : (q : ℕ) → 0 < times q (suc h) t → q < pagesIn today (length w₁)) (lowers : Lowers (t .page) (suc h) w₁ w₂) where
   root-stays : 1 ≤ length (t .own) → w₂ ≡ w₁
   root-stays some = lowers .stays (omega (arith, root-count w₁ h t stands))
 
@@ -64,29 +65,29 @@ module _ (w₁ w₂ : List ℕ) (h : ℕ) (t : Tree (suc h)) (stands : Standing 
   root-gone none = lower-to w₁ w₂ h t stands forks inside (omega (arith, root-count w₁ h t stands)) lowers
 
   -- no page changes
-  pub collapse-others : (q : ℕ) → pageOf w₂ q ≡ pageOf w₁ q
+  pub collapse-others : (q : ℕ) → pageIn w₂ q ≡ pageIn w₁ q
   collapse-others q =
-      either-le 1 (length (t .own)) (λ some. ap (λ (l : List ℕ). pageOf l q) (root-stays some)) (λ none. root-gone (omega arith) .others q)
+      either-le 1 (length (t .own)) (λ some. ap (λ (l : List ℕ). pageIn l q) (root-stays some)) (λ none. root-gone (omega arith) .others q)
 
   module _ (w : List ℕ) (sized : Sized w) (long : length w₁ ≡ length w) (head : take headWords w₁ ≡ take headWords w)
-      (root : word w 3 ≡ suc (t .page)) (levels : word w 4 ≡ suc h) (bits : (q : ℕ) → bitAt (mapOf w₁) q ≡ times q (suc h) t) where
-    map-place : t .page / 64 < length (mapOf w₁)
+      (root : word w 3 ≡ suc (t .page)) (levels : word w 4 ≡ suc h) (bits : (q : ℕ) → bitAt (mapIn w₁) q ≡ times q (suc h) t) where
+    map-place : t .page / 64 < length (mapIn w₁)
     map-place = omega (arith, inside (t .page) (times-page h t), map-bits w₁ (omega arith))
 
     lowered-carries : length (t .own) ≡ 0 → Carries w (record { levels = h; tree = child h t 0 }) w₂
     unfolding Standing times meets
     lowered-carries none =
         let l = root-gone none in
-        let taken : bitAt (mapOf w₁) (t .page) ≡ 1 = omega (arith, bits (t .page), bitAt-lt (mapOf w₁) (t .page), times-page h t) in
+        let taken : bitAt (mapIn w₁) (t .page) ≡ 1 = omega (arith, bits (t .page), bitAt-lt (mapIn w₁) (t .page), times-page h t) in
         record {
           long = lowers .long ∙ long;
           words = λ i b three four. l .rooted .others i b three four ∙ front-word headWords w w₁ head i b;
           root = l .rooted .root;
           levels = l .rooted .levels;
           bits = λ q. rw (l .map)
-              (omega (arith, clear-bits (mapOf w₁) (t .page) map-place taken q, bits q, sum-single (times q h) (t .children) (noTree h) (omega arith)));
-          stands = standing-frame least (pageOf w₁) (pageOf w₂) h (child h t 0) (λ q _. sym (l .others q))
-              (all-at (Standing least (pageOf w₁) h) (t .children) 0 (noTree h) (omega arith) (stands .1));
+              (omega (arith, clear-bits (mapIn w₁) (t .page) map-place taken q, bits q, sum-single (times q h) (t .children) (noTree h) (omega arith)));
+          stands = standing-frame least (pageIn w₁) (pageIn w₂) h (child h t 0) (λ q _. sym (l .others q))
+              (all-at (Standing least (pageIn w₁) h) (t .children) 0 (noTree h) (omega arith) (stands .1));
         }
 
     pub collapse-carries : Carries w (collapse h t) w₂
@@ -106,8 +107,8 @@ module _ (w₁ w₂ : List ℕ) (h : ℕ) (t : Tree (suc h)) (stands : Standing 
 -- ---- a tree that has shrunk along a path, and its root
 
 pub remove-carries : (w ps ss w₁ w₂ : List ℕ) (u : Gone) (h : ℕ) (t : Tree h) (g : ℕ) → Sits w 1 h t → g < size h t → PathOf h t g ps ss → length ps ≡ h → Sized w
-    → word w 3 ≡ rootOf h t → word w 4 ≡ h → ((q : ℕ) → bitAt (mapOf w) q ≡ times q h t) → RemovesBelow w ps ss w₁ u → Lowers (getD ps 0 0) (length ps) w₁ w₂
-    → Carries w (removeIn least h t g) w₂ × ((q : ℕ) → All (λ p. q ≢ p) (nearIn h t g) → pageOf w₂ q ≡ pageOf w q)
+    → word w 3 ≡ rootOf h t → word w 4 ≡ h → ((q : ℕ) → bitAt (mapIn w) q ≡ times q h t) → RemovesBelow w ps ss w₁ u → Lowers (getD ps 0 0) (length ps) w₁ w₂
+    → Carries w (removeIn least h t g) w₂ × ((q : ℕ) → All (λ p. q ≢ p) (nearIn h t g) → pageIn w₂ q ≡ pageIn w q)
 unfolding removeIn entries
 remove-carries w ps ss w₁ w₂ u zero t g s b path many sized root levels bits below lowers = absurd (omega arith)
 remove-carries w ps ss w₁ w₂ u (suc h) t g s b path many sized root levels bits below lowers =
@@ -119,8 +120,8 @@ remove-carries w ps ss w₁ w₂ u (suc h) t g s b path many sized root levels b
     let first : getD ps 0 0 ≡ t′ .page = first-page (suc h) t g (omega arith) (path .pages) ∙ sym page in
     let lowers′ : Lowers (t′ .page) (suc h) w₁ w₂ = rw (first, many) at lowers in
     let forks : length (t′ .children) ≡ suc (length (t′ .own)) = shaped-forks least 0 h t′ (remove-at-shaped least 1 h t g (omega arith) (omega arith) (s .shaped) (omega arith)) in
-    let bits′ : (q : ℕ) → bitAt (mapOf w₁) q ≡ times q (suc h) t′ = λ q. omega (arith, k .bits q, bits q, met q) in
-    let inside : (q : ℕ) → 0 < times q (suc h) t′ → q < pagesIn (length w₁) = λ q l. rw (k .touches .long) (s .inside q (omega (arith, met q))) in (
+    let bits′ : (q : ℕ) → bitAt (mapIn w₁) q ≡ times q (suc h) t′ = λ q. omega (arith, k .bits q, bits q, met q) in
+    let inside : (q : ℕ) → 0 < times q (suc h) t′ → q < pagesIn today (length w₁) = λ q l. rw (k .touches .long) (s .inside q (omega (arith, met q))) in (
       collapse-carries w₁ w₂ h t′ (k .stands) forks inside lowers′ w sized (k .touches .long) (k .touches .head) (root ∙ ap suc (sym page)) levels bits′,
       λ q far. collapse-others w₁ w₂ h t′ (k .stands) forks inside lowers′ q ∙ k .touches .others q far,
     )
@@ -163,19 +164,19 @@ removes-done w ps ss w₁ w₂ u fits many below lowers = record {
       let a = sound-written w sound in
       let x = remove least (P .whole) g in
       let c : Carries w x w₂ = carried g sound b path .0 in
-      let after : held x ≡ del g (heldBy P) = remove-held least (P .whole) g (omega arith) (sound-right w sound .formed) b in
+      let after : held x ≡ del g (heldBy P) = remove-held least (P .whole) g (omega arith) (written-formed a (sound-right w sound)) b in
       let size = headed-sized w fits in
-      leaves-written w P x (set w₂ 2 (word w₂ 2 - 1)) a
+      rw (written-least a) (leaves-written w P x (set w₂ 2 (word w₂ 2 - 1)) a
       (carries-leaves w P x w₂ (word w₂ 2 - 1) c (omega arith)
       (omega (arith, c .words 2 (omega arith) (omega arith) (omega arith), head-word a 2 (omega arith), ap length after, length-del g (heldBy P) b))
-      (key-stays (heldBy P) (held x) (P .cursor) (λ i l. rw after (ap (λ (y : Entry). y .key) (del-before g (heldBy P) i noEntry (omega arith) (omega arith))))));
+      (key-stays (heldBy P) (held x) (P .cursor) (λ i l. rw after (ap (λ (y : Entry). y .key) (del-before g (heldBy P) i noEntry (omega arith) (omega arith)))))));
   others = λ g sound b path q far. head-page (head-stored w₂ 2 (word w₂ 2 - 1) (omega arith)) q ∙ carried g sound b path .1 q far;
 }
   where
     carried : (g : ℕ) → Sound w → g < length (heldBy (poolOf w)) → PathOf (poolOf w .whole .levels) (poolOf w .whole .tree) g ps ss
         → Carries w (remove least (poolOf w .whole) g) w₂
-        × ((q : ℕ) → All (λ p. q ≢ p) (nearIn (poolOf w .whole .levels) (poolOf w .whole .tree) g) → pageOf w₂ q ≡ pageOf w q)
+        × ((q : ℕ) → All (λ p. q ≢ p) (nearIn (poolOf w .whole .levels) (poolOf w .whole .tree) g) → pageIn w₂ q ≡ pageIn w q)
     carried g sound b path =
         let a = sound-written w sound in
         remove-carries w ps ss w₁ w₂ u (poolOf w .whole .levels) (poolOf w .whole .tree) g (sound-sits w sound) b path (many ∙ head-word a 4 (omega arith)) (headed-sized w fits)
-        (head-word a 3 (omega arith)) (head-word a 4 (omega arith)) (a .bits) below lowers
+        (head-word a 3 (omega arith)) (head-word a 4 (omega arith)) (written-bits a) below lowers

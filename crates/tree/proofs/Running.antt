@@ -10,12 +10,12 @@ use lib.Dec.{eqb}
 use lib.ListN.{length, take, getD, length-append}
 use lib.Seq.{take-all, take-suc}
 use borrow.Author.Tests.{le-leb, lt-leb, eq-eqb, ne-eqb}
-use Rattle.model.specs.Layout.{least, mostEntries}
+use Rattle.model.specs.Layout.{mostEntries}
 use Rattle.model.specs.Tree.{Tree, size}
-use Rattle.model.specs.Page.{pageOf, countOf}
+use Rattle.model.specs.Page.{countOf}
 use Rattle.model.specs.Gap.{gapPages, restAt, childAt}
 use Rattle.model.specs.Insert.{onward, run, needed}
-use Rattle.lend.specs.Pages.{most}
+use Rattle.lend.specs.Pages.{least, most, pageIn}
 use Rattle.tree.specs.Sits.{Sits}
 use Rattle.tree.specs.Insert.{runOn, Needs}
 use Rattle.model.proofs.Cases.{either-le, either-eq}
@@ -30,14 +30,14 @@ pub run-on-le : (w ps : List ℕ) → runOn w ps ≤ length ps
 unfolding runOn
 run-on-le w [] = omega arith
 run-on-le w (p ∷ ps) =
-    either-onward least (length ps) (countOf (pageOf w p)) (runOn w ps)
+    either-onward least (length ps) (countOf (pageIn w p)) (runOn w ps)
     (λ e. rw e (omega (arith, run-on-le w ps)))
     (λ e k b. rw e (omega arith))
 
 -- a last page with room: there is no run
-pub run-on-room : (w ps : List ℕ) (p : ℕ) → countOf (pageOf w p) < most → runOn w (ps ++ p ∷ []) ≡ 0
+pub run-on-room : (w ps : List ℕ) (p : ℕ) → countOf (pageIn w p) < most → runOn w (ps ++ p ∷ []) ≡ 0
 unfolding runOn
-run-on-room w [] p b = rw (le-leb (suc (countOf (pageOf w p))) most b)
+run-on-room w [] p b = rw (le-leb (suc (countOf (pageIn w p))) most b)
 run-on-room w (x ∷ ps) p b = rw (run-on-room w ps p b, ne-eqb 0 (length (ps ++ p ∷ [])) (λ e. omega (arith, length-append ps (p ∷ []))))
 
 onward-suc : (m h count k : ℕ) → onward m (suc h) count (suc k) ≡ suc (onward m h count k)
@@ -49,12 +49,12 @@ onward-suc m h count k =
     (λ d. rw (ne-eqb (suc k) (suc h) (λ e. d (omega arith)), ne-eqb k h d))
 
 -- a full last page: the run is one longer
-pub run-on-full : (w ps : List ℕ) (p : ℕ) → most ≤ countOf (pageOf w p) → runOn w (ps ++ p ∷ []) ≡ suc (runOn w ps)
+pub run-on-full : (w ps : List ℕ) (p : ℕ) → most ≤ countOf (pageIn w p) → runOn w (ps ++ p ∷ []) ≡ suc (runOn w ps)
 unfolding runOn
-run-on-full w [] p b = rw (lt-leb (suc (countOf (pageOf w p))) most (omega arith))
+run-on-full w [] p b = rw (lt-leb (suc (countOf (pageIn w p))) most (omega arith))
 run-on-full w (x ∷ ps) p b =
     let long : length (ps ++ p ∷ []) ≡ suc (length ps) = omega (arith, length-append ps (p ∷ [])) in
-    rw (run-on-full w ps p b, long) (onward-suc least (length ps) (countOf (pageOf w x)) (runOn w ps))
+    rw (run-on-full w ps p b, long) (onward-suc least (length ps) (countOf (pageIn w x)) (runOn w ps))
 
 -- ---- the same, as code comes from the path's end
 
@@ -70,10 +70,10 @@ module _ (w ps : List ℕ) (i j : ℕ) (a : Counted w ps i) (u : i ≡ suc j) wh
   split-last : take i ps ≡ take j ps ++ (getD ps j 0 ∷ [])
   split-last = rw u (take-suc ps j 0 (omega (arith, a .within)))
 
-  pub counted-room : countOf (pageOf w (getD ps j 0)) < most → length ps - i ≡ runOn w ps
+  pub counted-room : countOf (pageIn w (getD ps j 0)) < most → length ps - i ≡ runOn w ps
   counted-room b = omega (arith, a .within, a .run, ap (runOn w) split-last ∙ run-on-room w (take j ps) (getD ps j 0) b)
 
-  pub counted-full : most ≤ countOf (pageOf w (getD ps j 0)) → Counted w ps j
+  pub counted-full : most ≤ countOf (pageIn w (getD ps j 0)) → Counted w ps j
   counted-full b = record {
     within = omega (arith, a .within);
     run = omega (arith, a .run, ap (runOn w) split-last ∙ run-on-full w (take j ps) (getD ps j 0) b);

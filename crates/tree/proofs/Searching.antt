@@ -12,9 +12,9 @@ use lib.Dec.{ltb, eqb}
 use lib.ListN.{length, getD}
 use borrow.Author.Tests.{le-leb, lt-leb, lt-ltb, le-ltb, eq-eqb, ne-eqb, leb-true}
 use Rattle.model.specs.Lists.{every}
-use Rattle.model.specs.Layout.{least, pagesIn}
+use Rattle.model.specs.Layout.{pagesIn, today}
 use Rattle.model.specs.Tree.{Entry, Tree, noEntry}
-use Rattle.model.specs.Page.{pageOf, countOf, heightOf, entryIn, childIn, entriesOf}
+use Rattle.model.specs.Page.{countOf, heightOf, entryIn, childIn, entriesOf}
 use Rattle.model.specs.Standing.{numberOf}
 use Rattle.model.specs.Entries.{gapOf, gapBefore}
 use Rattle.model.specs.Gap.{child, at, Found, deeper, find}
@@ -22,7 +22,7 @@ use Rattle.page.specs.declared.Place.{Place}
 use Rattle.page.specs.declared.Place.the-variants as place
 use Rattle.page.specs.declared.Slot.the-variants as slot
 use Rattle.page.specs.Page.{counted, gapIn, placeOf}
-use Rattle.lend.specs.Pages.{most}
+use Rattle.lend.specs.Pages.{least, most, pageIn}
 use Rattle.tree.specs.declared.search.Below.{Below}
 use Rattle.tree.specs.declared.search.Below.the-variants as below
 use Rattle.tree.specs.declared.search.Got.{Got}
@@ -52,44 +52,44 @@ module _ (w : List ℕ) (p at : ℕ) where
   unfolding belowOf
   below-far l = rw (lt-leb at most l)
 
-  pub below-page : (c n : ℕ) → at ≤ most → c ≡ childIn most (pageOf w p) at → n ≡ pagesIn (length w) → c < n → below.Page c ≡ belowOf w p at
+  pub below-page : (c n : ℕ) → at ≤ most → c ≡ childIn most (pageIn w p) at → n ≡ pagesIn today (length w) → c < n → below.Page c ≡ belowOf w p at
   unfolding belowOf
   below-page c n few e k l = rw (le-leb at most few, ← e, ← k, lt-ltb c n l)
 
-  pub below-past : (c n : ℕ) → at ≤ most → c ≡ childIn most (pageOf w p) at → n ≡ pagesIn (length w) → n ≤ c → below.Unsound ≡ belowOf w p at
+  pub below-past : (c n : ℕ) → at ≤ most → c ≡ childIn most (pageIn w p) at → n ≡ pagesIn today (length w) → n ≤ c → below.Unsound ≡ belowOf w p at
   unfolding belowOf
   below-past c n few e k l = rw (le-leb at most few, ← e, ← k, le-ltb c n l)
 
   -- the child that is answered lies inside the pool, at a place where there can be one
-  pub below-inside : (c : ℕ) → belowOf w p at ≡ below.Page c → (at ≤ most) × (c < pagesIn (length w))
+  pub below-inside : (c : ℕ) → belowOf w p at ≡ below.Page c → (at ≤ most) × (c < pagesIn today (length w))
   unfolding belowOf
   below-inside c e =
-      let d : ℕ = childIn most (pageOf w p) at in
+      let d : ℕ = childIn most (pageIn w p) at in
       either-le at most
-      (λ few. either-lt d (pagesIn (length w))
-      (λ l. let q : d ≡ c = cc (le-leb at most few, lt-ltb d (pagesIn (length w)) l) in (few, omega arith))
-      (λ l. no-page refl (rw (le-leb at most few, le-ltb d (pagesIn (length w)) l) at e)))
+      (λ few. either-lt d (pagesIn today (length w))
+      (λ l. let q : d ≡ c = cc (le-leb at most few, lt-ltb d (pagesIn today (length w)) l) in (few, omega arith))
+      (λ l. no-page refl (rw (le-leb at most few, le-ltb d (pagesIn today (length w)) l) at e)))
       (λ far. no-page refl (rw (lt-leb at most far) at e))
 
 module _ (w : List ℕ) (p h : ℕ) where
-  pub place-other : (k n : ℕ) → n ≡ heightOf (pageOf w p) → n ≢ h → place.Unsound ≡ placeAt w p h k
+  pub place-other : (k n : ℕ) → n ≡ heightOf (pageIn w p) → n ≢ h → place.Unsound ≡ placeAt w p h k
   unfolding placeAt
   place-other k n e d = rw (← e, ne-eqb n h d)
 
-  pub place-same : (k n : ℕ) → n ≡ heightOf (pageOf w p) → n ≡ h → placeOf most (pageOf w p) k ≡ placeAt w p h k
+  pub place-same : (k n : ℕ) → n ≡ heightOf (pageIn w p) → n ≡ h → placeOf most (pageIn w p) k ≡ placeAt w p h k
   unfolding placeAt
   place-same k n e d = rw (← e, eq-eqb n h d)
 
-  pub slot-other : (before : ℕ → Bool) (n : ℕ) → n ≡ heightOf (pageOf w p) → n ≢ h → slot.Unsound ≡ slotBy w p h before
+  pub slot-other : (before : ℕ → Bool) (n : ℕ) → n ≡ heightOf (pageIn w p) → n ≢ h → slot.Unsound ≡ slotBy w p h before
   unfolding slotBy
   slot-other before n e d = rw (← e, ne-eqb n h d)
 
-  pub slot-same : (before : ℕ → Bool) (n : ℕ) → n ≡ heightOf (pageOf w p) → n ≡ h → gapIn most (pageOf w p) before ≡ slotBy w p h before
+  pub slot-same : (before : ℕ → Bool) (n : ℕ) → n ≡ heightOf (pageIn w p) → n ≡ h → gapIn most (pageIn w p) before ≡ slotBy w p h before
   unfolding slotBy
   slot-same before n e d = rw (← e, eq-eqb n h d)
 
   -- the last slot is after every key: by the page's count n, where the height is right
-  module _ (t n : ℕ) (e : t ≡ heightOf (pageOf w p)) (d : t ≡ h) (k : n ≡ countOf (pageOf w p)) where
+  module _ (t n : ℕ) (e : t ≡ heightOf (pageIn w p)) (d : t ≡ h) (k : n ≡ countOf (pageIn w p)) where
     pub last-none : n ≡ 0 → slot.Unsound ≡ slotBy w p h (λ x. true)
     unfolding slotBy gapIn
     last-none z = rw (← e, eq-eqb t h d, ← k, z)
@@ -100,33 +100,33 @@ module _ (w : List ℕ) (p h : ℕ) where
 
     pub last-at : 1 ≤ n → n ≤ most → slot.At n ≡ slotBy w p h (λ x. true)
     unfolding slotBy gapIn
-    last-at a b = rw (← e, eq-eqb t h d, ← k, le-leb 1 n a, le-leb n most b) (ap slot.At (k ∙ sym (length-own most (pageOf w p)) ∙ sym (gap-end (entriesOf most (pageOf w p)))))
+    last-at a b = rw (← e, eq-eqb t h d, ← k, le-leb 1 n a, le-leb n most b) (ap slot.At (k ∙ sym (length-own most (pageIn w p)) ∙ sym (gap-end (entriesOf most (pageIn w p)))))
 
 -- a slot is answered where the page is as it has to be, and is then the test's gap
 module _ (w : List ℕ) (p h : ℕ) (before : ℕ → Bool) where
   slot-held : {i : ℕ} → slot.At i ≡ slotBy w p h before
-      → (eqb (heightOf (pageOf w p)) h ≡ true) × (every (counted most (pageOf w p)) ≡ true) × (i ≡ gapOf before (entriesOf most (pageOf w p)))
+      → (eqb (heightOf (pageIn w p)) h ≡ true) × (every (counted most (pageIn w p)) ≡ true) × (i ≡ gapOf before (entriesOf most (pageIn w p)))
   unfolding slotBy gapIn
   slot-held e =
-      either (eqb (heightOf (pageOf w p)) h)
-      (λ y. either (every (counted most (pageOf w p))) (λ t. (y, t, one-slot (rw (y, t) at e))) (λ f. no-slot (sym (rw (y, f) at e))))
+      either (eqb (heightOf (pageIn w p)) h)
+      (λ y. either (every (counted most (pageIn w p))) (λ t. (y, t, one-slot (rw (y, t) at e))) (λ f. no-slot (sym (rw (y, f) at e))))
       (λ n. no-slot (sym (rw n at e)))
 
   pub slot-few : {i : ℕ} → slot.At i ≡ slotBy w p h before → i ≤ most
   slot-few e =
       let held = slot-held e in
-      omega (arith, held .2, gap-le before (entriesOf most (pageOf w p)), length-own most (pageOf w p), leb-true (countOf (pageOf w p)) most (every-true (counted most (pageOf w p)) (held .1) .1 .0))
+      omega (arith, held .2, gap-le before (entriesOf most (pageIn w p)), length-own most (pageIn w p), leb-true (countOf (pageIn w p)) most (every-true (counted most (pageIn w p)) (held .1) .1 .0))
 
 -- the first slot is there where the last is
 pub start-at : (w : List ℕ) (p h : ℕ) {i : ℕ} → slot.At i ≡ slotBy w p h (λ x. true) → slot.At 0 ≡ slotBy w p h (λ x. false)
 unfolding slotBy gapIn
-start-at w p h e = let held = slot-held w p h (λ x. true) e in rw (held .0, held .1) (ap slot.At (sym (gap-start (entriesOf most (pageOf w p)))))
+start-at w p h e = let held = slot-held w p h (λ x. true) e in rw (held .0, held .1) (ap slot.At (sym (gap-start (entriesOf most (pageIn w p)))))
 
 pub start-lost : (w : List ℕ) (p h : ℕ) → slot.Unsound ≡ slotBy w p h (λ x. true) → slot.Unsound ≡ slotBy w p h (λ x. false)
 unfolding slotBy gapIn
 start-lost w p h e =
-    either (eqb (heightOf (pageOf w p)) h)
-    (λ y. either (every (counted most (pageOf w p))) (λ t. no-slot (rw (y, t) at e)) (λ f. rw (y, f)))
+    either (eqb (heightOf (pageIn w p)) h)
+    (λ y. either (every (counted most (pageIn w p))) (λ t. no-slot (rw (y, t) at e)) (λ f. rw (y, f)))
     (λ n. rw n)
 
 -- ---- the slots that any words can answer
@@ -139,12 +139,12 @@ Few place.Unsound = Unit {0}
 place-few : (w : List ℕ) (p h k : ℕ) → Few (placeAt w p h k)
 unfolding placeAt placeOf
 place-few w p h k =
-    let es : List Entry = entriesOf most (pageOf w p) in
+    let es : List Entry = entriesOf most (pageIn w p) in
     let i : ℕ = gapBefore k es in
-    either (eqb (heightOf (pageOf w p)) h)
-    (λ y. rw y (either (every (counted most (pageOf w p)))
-    (λ t. rw t (let long : length es ≡ countOf (pageOf w p) = length-own most (pageOf w p) in
-    let tests = every-true (counted most (pageOf w p)) t in
+    either (eqb (heightOf (pageIn w p)) h)
+    (λ y. rw y (either (every (counted most (pageIn w p)))
+    (λ t. rw t (let long : length es ≡ countOf (pageIn w p) = length-own most (pageIn w p) in
+    let tests = every-true (counted most (pageIn w p)) t in
     either (at k es i)
     (λ here. rw here (omega (arith, at-true k es i here .0, leb-true)))
     (λ not-here. rw not-here (omega (arith, gap-le (λ x. ltb x k) es, leb-true)))))
@@ -157,7 +157,7 @@ here-few w p h k i e = subst Few e (place-few w p h k)
 -- ---- a tree that sits in the pool
 
 module _ (w : List ℕ) (low h : ℕ) (t : Tree (suc h)) (s : Sits w low (suc h) t) where
-  sits-counted : every (counted most (pageOf w (t .page))) ≡ true
+  sits-counted : every (counted most (pageIn w (t .page))) ≡ true
   sits-counted =
       rw (root-count w h t (s .stands), le-leb 1 (length (t .own)) (sits-some w low h t s), le-leb (length (t .own)) most (sits-most w low h t s))
 
@@ -215,13 +215,13 @@ module _ (w : List ℕ) (p h k above : ℕ) where
   pub get-unsound : {r : Got} → placeAt w p h k ≡ place.Unsound → GetsBelow w p h k above r
   get-unsound e low t s q = absurd (subst (Answers k (t .own)) e (sits-answers w low h t p k s q))
 
-  pub get-here : {v : ℕ} (i : ℕ) → placeAt w p h k ≡ place.Here i → v ≡ entryIn most (pageOf w p) i .value → GetsBelow w p h k above (got.Value v (above + 1))
+  pub get-here : {v : ℕ} (i : ℕ) → placeAt w p h k ≡ place.Here i → v ≡ entryIn most (pageIn w p) i .value → GetsBelow w p h k above (got.Value v (above + 1))
   get-here {v} i e a low t s q =
       let says : (gapBefore k (t .own) ≡ i) × (at k (t .own) (gapBefore k (t .own)) ≡ true) = subst (Answers k (t .own)) e (sits-answers w low h t p k s q) in
       let few = at-true k (t .own) (gapBefore k (t .own)) (says .1) .0 in
-      let own : getD (entriesOf most (pageOf w p)) i noEntry ≡ getD (t .own) (gapBefore k (t .own)) noEntry = rw (← q, sits-own w low h t s, says .0) in
+      let own : getD (entriesOf most (pageIn w p)) i noEntry ≡ getD (t .own) (gapBefore k (t .own)) noEntry = rw (← q, sits-own w low h t s, says .0) in
       let value : v ≡ getD (t .own) (gapBefore k (t .own)) noEntry .value =
-      a ∙ ap (λ (x : Entry). x .value) (own-at (pageOf w p) i (rw (← q) (omega (arith, root-count w h t (s .stands)))) ∙ own) in
+      a ∙ ap (λ (x : Entry). x .value) (own-at (pageIn w p) i (rw (← q) (omega (arith, root-count w h t (s .stands)))) ∙ own) in
       ap (λ (x : ℕ). got.Value x (above + 1)) value ∙ ap (gotOf above) (sym (find-here k h t (says .1)))
 
   -- a gap of a leaf; and a gap with no child there

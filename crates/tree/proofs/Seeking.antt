@@ -7,7 +7,6 @@ use Prim.Native.Nat.{ℕ, zero, suc, pred, _+_, _-_, _<_}
 use native.Mathlib.Omega.{arith}
 use lib.ListN.{length, take, drop, getD, set, length-drop, take-append-drop}
 use lib.Seq.{drop-cons, set-split, drop-set-lt, take-suc-set}
-use Rattle.model.specs.Layout.{least}
 use Rattle.model.specs.Head.{rootWord, levelsWord}
 use Rattle.model.specs.Tree.{Tree, entries, Rising, held, Formed}
 use Rattle.model.specs.Standing.{rootOf, numberOf}
@@ -16,7 +15,7 @@ use Rattle.model.specs.Gap.{gapPages, gapSlots, seekPages, seekSlots, find}
 use Rattle.model.specs.Pool.{heldBy, wholeOf, poolOf}
 use Rattle.model.specs.Sound.{Sound}
 use Rattle.model.specs.MapCalls.{pagesRead}
-use Rattle.lend.specs.Pages.{Inside}
+use Rattle.lend.specs.Pages.{least, Inside}
 use Rattle.tree.specs.declared.search.Aim.{Aim}
 use Rattle.tree.specs.declared.search.Aim.the-variants.{Before, After, Start, End}
 use Rattle.tree.specs.declared.search.Below.the-variants as below

@@ -6,10 +6,10 @@ use mathlib.Core.List.{List}
 use Prim.Native.Nat.{ℕ, zero, suc, _-_, _≤_, _<_}
 use native.Mathlib.Omega.{arith}
 use lib.ListN.{length, drop, getD, length-drop}
-use Rattle.model.specs.Layout.{least}
 use Rattle.model.specs.Tree.{Tree, size, Shaped}
-use Rattle.model.specs.Page.{pageOf, countOf}
+use Rattle.model.specs.Page.{countOf}
 use Rattle.model.specs.Gap.{slotAt, childAt, gapPages, gapSlots}
+use Rattle.lend.specs.Pages.{least, pageIn}
 use Rattle.tree.specs.declared.remove.Gone.{Gone}
 use Rattle.tree.specs.declared.remove.Gone.the-variants as gone
 use Rattle.tree.specs.declared.search.Below.the-variants as below
@@ -27,16 +27,16 @@ use Rattle.tree.proofs.Shrinking.{kept-page, kept-count, Along, along-c
 
 -- the tree's own page keeps its count
 abbrev Keeps : (w w′ : List ℕ) (h : ℕ) → Tree (suc h) → ℕ → Type 0
-Keeps w w′ h t g = countOf (pageOf w′ (t .page)) ≡ countOf (pageOf w (t .page))
+Keeps w w′ h t g = countOf (pageIn w′ (t .page)) ≡ countOf (pageIn w (t .page))
 
 -- a page with the same words has the same children
-below-same : (w w′ : List ℕ) (u i : ℕ) → pageOf w′ u ≡ pageOf w u → length w′ ≡ length w → belowOf w′ u i ≡ belowOf w u i
+below-same : (w w′ : List ℕ) (u i : ℕ) → pageIn w′ u ≡ pageIn w u → length w′ ≡ length w → belowOf w′ u i ≡ belowOf w u i
 unfolding belowOf
 below-same w w′ u i page long = rw (page, long)
 
 -- a child with enough is left as it is
 pub keeps : (u i : ℕ) (w : List ℕ) → least ≤ countBelow w u i → Mends u i w w
-keeps u i w enough = mends-keep u i w (plan-keep least (countOf (pageOf w u)) (countBelow w u) i enough)
+keeps u i w enough = mends-keep u i w (plan-keep least (countOf (pageIn w u)) (countBelow w u) i enough)
 
 -- ---- a page whose child has lost the entry, with its heir
 
@@ -68,9 +68,9 @@ module _ (w w₁ ps ss : List ℕ) (more : 2 ≤ length ps) (removes : RemovesBe
       let in-slot : i ≤ length (t .own) = sits-slot w low (suc h) t s g b in
       let sits : Sits w least (suc h) x = sits-child w low (suc h) t s i in-slot in
       let shrinks = along-child w ps ss (λ h t g. Shrinks w h t g w₁ gone.Taken) (removes .shrinks) low h t g s b path marked in
-      let page : pageOf w₁ (t .page) ≡ pageOf w (t .page) = kept-page w w₁ low h t g gone.Taken s b marked shrinks in
+      let page : pageIn w₁ (t .page) ≡ pageIn w (t .page) = kept-page w w₁ low h t g gone.Taken s b marked shrinks in
       let found : belowOf w₁ (t .page) i ≡ below.Page (x .page) = below-same w w₁ (t .page) i page (removes .long) ∙ sits-below w low (suc h) t s (omega arith) i in-slot in
-      let count : countOf (pageOf w₁ (x .page)) ≡ length (x .own) =
+      let count : countOf (pageIn w₁ (x .page)) ≡ length (x .own) =
       along-child w ps ss (Keeps w w₁) keeps-below low h t g s b path marked ∙ root-count w h x (sits .stands) in
       omega (arith, count-found w₁ (t .page) i (x .page) found, sits .shaped .few)
 

@@ -12,15 +12,14 @@ use lib.ListN.{length, take, drop, getD, set, length-set, length-drop}
 use lib.Seq.{set-out, map-set-same}
 use borrow.Author.Tests.{le-leb, lt-leb, lt-ltb, le-ltb}
 use Rattle.model.specs.Lists.{sum, All, final, same}
-use Rattle.model.specs.Layout.{least}
-use Rattle.model.specs.PageMap.{mapOf, bitAt}
+use Rattle.model.specs.PageMap.{bitAt}
 use Rattle.model.specs.Tree.{Entry, Tree, noEntry, noNode, noTree, entries, size, times, Shaped}
-use Rattle.model.specs.Page.{pageOf, countOf, heightOf, entriesOf, childrenOf, Holds}
+use Rattle.model.specs.Page.{countOf, heightOf, entriesOf, childrenOf, Holds}
 use Rattle.model.specs.Standing.{mapNode, numberOf, Standing}
 use Rattle.model.specs.Gap.{slotAt, restAt, child, childAt, gapPages, gapSlots}
 use Rattle.model.specs.Remove as removal
 use Rattle.model.specs.Remove.{step, stepFreed, removeAt, freedAt}
-use Rattle.lend.specs.Pages.{most}
+use Rattle.lend.specs.Pages.{least, most, pageIn, mapIn}
 use Rattle.tree.specs.declared.remove.Gone.{Gone}
 use Rattle.tree.specs.declared.remove.Gone.the-variants as gone
 use Rattle.tree.specs.Sits.{PathOf, Sits}
@@ -115,46 +114,46 @@ module _ (w w₁ : List ℕ) (low h : ℕ) (t : Tree (suc (suc h))) (g : ℕ) (r
   apart : (q : ℕ)
       → same q (t .page) + (sum (times q (suc h)) (take i (t .children)) + (times q (suc h) x + sum (times q (suc h)) (drop (suc i) (t .children)))) ≤ 1
   unfolding times
-  apart q = omega (arith, marked q, bitAt-le (mapOf w) q, sum-at (times q (suc h)) (t .children) i (noTree (suc h)) inside)
+  apart q = omega (arith, marked q, bitAt-le (mapIn w) q, sum-at (times q (suc h)) (t .children) i (noTree (suc h)) inside)
 
   c-times : (q : ℕ) → times q (suc h) c + sum (same q) (freedAt least (suc h) x o) ≡ times q (suc h) x
   c-times = remove-at-times least least h x o (omega arith) (omega arith) x-shaped fits
 
   -- the child's removal leaves all other pages
-  kept-below : (q : ℕ) → times q (suc h) x ≡ 0 → pageOf w₁ q ≡ pageOf w q
+  kept-below : (q : ℕ) → times q (suc h) x ≡ 0 → pageIn w₁ q ≡ pageIn w q
   kept-below q z = below .touches .others q (near-apart least h x o q x-shaped fits z)
 
-  pub kept-page : pageOf w₁ (t .page) ≡ pageOf w (t .page)
+  pub kept-page : pageIn w₁ (t .page) ≡ pageIn w (t .page)
   kept-page = kept-below (t .page) (omega (arith, apart (t .page), same-self (t .page)))
 
   module _ (w₂ : List ℕ) (r₂ : Gone) (heir : Inherits (t .page) i r₁ w₁ w₂ r₂) where
-    kept-other : (q : ℕ) → same q (t .page) ≡ 0 → pageOf w₂ q ≡ pageOf w₁ q
+    kept-other : (q : ℕ) → same q (t .page) ≡ 0 → pageIn w₂ q ≡ pageIn w₁ q
     kept-other q z = heir .only .others q (same-zero q (t .page) z, tt)
 
     -- the words of the page
     u-numbers : map (numberOf (suc h)) (u .children) ≡ map (numberOf (suc h)) (t .children)
     u-numbers = map-set-same (numberOf (suc h)) (t .children) i c noNode (remove-at-page least h x o)
 
-    page-children : 0 < suc h → childrenOf most (pageOf w (t .page)) ≡ map (numberOf (suc h)) (u .children)
+    page-children : 0 < suc h → childrenOf most (pageIn w (t .page)) ≡ map (numberOf (suc h)) (u .children)
     unfolding Standing
     page-children l = s .stands .0 .children l ∙ sym u-numbers
 
-    page-same : w₂ ≡ w₁ → u .own ≡ t .own → Holds most (suc h) (mapNode (numberOf (suc h)) u) (pageOf w₂ (t .page))
+    page-same : w₂ ≡ w₁ → u .own ≡ t .own → Holds most (suc h) (mapNode (numberOf (suc h)) u) (pageIn w₂ (t .page))
     unfolding Standing
     page-same e own =
-        let z : pageOf w₂ (t .page) ≡ pageOf w (t .page) = ap (λ (l : List ℕ). pageOf l (t .page)) e ∙ kept-page in
+        let z : pageIn w₂ (t .page) ≡ pageIn w (t .page) = ap (λ (l : List ℕ). pageIn l (t .page)) e ∙ kept-page in
         let k = s .stands .0 in
         rw z (record { height = k .height; own = k .own ∙ sym own; children = page-children })
 
-    u-holds : Holds most (suc h) (mapNode (numberOf (suc h)) u) (pageOf w₂ (t .page))
+    u-holds : Holds most (suc h) (mapNode (numberOf (suc h)) u) (pageIn w₂ (t .page))
     u-holds =
-        let own : entriesOf most (pageOf w (t .page)) ≡ t .own = sits-own w low (suc h) t s in
-        let height : heightOf (pageOf w (t .page)) ≡ suc h = sits-height w low (suc h) t s in
-        let count : countOf (pageOf w₁ (t .page)) ≡ length (t .own) = ap countOf kept-page ∙ root-count w (suc h) t (s .stands) in
+        let own : entriesOf most (pageIn w (t .page)) ≡ t .own = sits-own w low (suc h) t s in
+        let height : heightOf (pageIn w (t .page)) ≡ suc h = sits-height w low (suc h) t s in
+        let count : countOf (pageIn w₁ (t .page)) ≡ length (t .own) = ap countOf kept-page ∙ root-count w (suc h) t (s .stands) in
         let few : length (t .own) ≤ most = sits-most w low (suc h) t s in
         let last : Entry = final noEntry (entries (suc h) x) in
         either-le (size (suc h) x) o
-        (λ end. either-lt i (countOf (pageOf w₁ (t .page)))
+        (λ end. either-lt i (countOf (pageIn w₁ (t .page)))
         (λ l.
         let k = rw kept-page at (heir .holds (last .key) (last .value) (below .handed ∙ gone-of-end (suc h) x o end) l (omega arith)) in
         record {
@@ -166,18 +165,18 @@ module _ (w w₁ : List ℕ) (low h : ℕ) (t : Tree (suc (suc h))) (g : ℕ) (r
         (λ before. page-same (heir .kept (below .handed ∙ gone-of-inside (suc h) x o before)) (lost-plain (suc h) t i o c before))
 
     -- the children: those that were not on the path, and c
-    u-standing : Standing least (pageOf w₂) (suc (suc h)) u
+    u-standing : Standing least (pageIn w₂) (suc (suc h)) u
     unfolding Standing
     u-standing =
-        let away : (q : ℕ) → same q (t .page) ≡ 0 → times q (suc h) x ≡ 0 → pageOf w q ≡ pageOf w₂ q = λ q z n. sym (kept-other q z ∙ kept-below q n) in
-        let here : Standing least (pageOf w₂) (suc h) c =
-        standing-frame least (pageOf w₁) (pageOf w₂) (suc h) c (λ q l. sym (kept-other q (omega (arith, apart q, c-times q)))) (below .stands) in (
+        let away : (q : ℕ) → same q (t .page) ≡ 0 → times q (suc h) x ≡ 0 → pageIn w q ≡ pageIn w₂ q = λ q z n. sym (kept-other q z ∙ kept-below q n) in
+        let here : Standing least (pageIn w₂) (suc h) c =
+        standing-frame least (pageIn w₁) (pageIn w₂) (suc h) c (λ q l. sym (kept-other q (omega (arith, apart q, c-times q)))) (below .stands) in (
           u-holds,
-          set-standing least (pageOf w) (pageOf w₂) (suc h) i c (t .children) inside (λ q l. away q (omega (arith, apart q)) (omega (arith, apart q))) (s .stands .1) here,
+          set-standing least (pageIn w) (pageIn w₂) (suc h) i c (t .children) inside (λ q l. away q (omega (arith, apart q)) (omega (arith, apart q))) (s .stands .1) here,
         )
 
     -- with an heir or without, the page keeps its count
-    pub kept-count : countOf (pageOf w₂ (t .page)) ≡ countOf (pageOf w (t .page))
+    pub kept-count : countOf (pageIn w₂ (t .page)) ≡ countOf (pageIn w (t .page))
     kept-count =
         let long : length (u .own) ≡ length (t .own) = simp length-set refl in
         root-count w₂ (suc h) u u-standing ∙ long ∙ sym (root-count w (suc h) t (s .stands))
@@ -186,17 +185,17 @@ module _ (w w₁ : List ℕ) (low h : ℕ) (t : Tree (suc (suc h))) (g : ℕ) (r
     u-handed : r₂ ≡ goneOf (suc (suc h)) t g
     unfolding entries Shaped
     u-handed =
-        let count : countOf (pageOf w₁ (t .page)) ≡ length (t .own) = ap countOf kept-page ∙ root-count w (suc h) t (s .stands) in
+        let count : countOf (pageIn w₁ (t .page)) ≡ length (t .own) = ap countOf kept-page ∙ root-count w (suc h) t (s .stands) in
         let forks : length (t .children) ≡ suc (length (t .own)) = sits-forks w low (suc h) t s in
-        let up : (v : Bool) → ltb i (countOf (pageOf w₁ (t .page))) ≡ v → r₂ ≡ inheritedBy v r₁ = λ v e. heir .answer ∙ ap (λ (v : Bool). inheritedBy v r₁) e in
+        let up : (v : Bool) → ltb i (countOf (pageIn w₁ (t .page))) ≡ v → r₂ ≡ inheritedBy v r₁ = λ v e. heir .answer ∙ ap (λ (v : Bool). inheritedBy v r₁) e in
         either-lt i (length (t .own))
         (λ l.
-        up true (lt-ltb i (countOf (pageOf w₁ (t .page))) (omega arith))
+        up true (lt-ltb i (countOf (pageIn w₁ (t .page))) (omega arith))
         ∙ sym (gone-of-inside (suc (suc h)) t g (either-le (size (suc (suc h)) t) g
         (λ end. absurd (omega (arith, slot-at-end least low (suc h) t g (s .shaped) (omega arith)))) (λ before. before))))
         (λ l.
         let last : i ≡ length (t .own) = omega (arith, inside) in
-        up false (le-ltb i (countOf (pageOf w₁ (t .page))) (omega arith)) ∙ below .handed ∙ either-le (size (suc h) x) o
+        up false (le-ltb i (countOf (pageIn w₁ (t .page))) (omega arith)) ∙ below .handed ∙ either-le (size (suc h) x) o
         (λ end.
         gone-of-end (suc h) x o end
         ∙ ap (λ (e : Entry). gone.Last (e .key) (e .value)) (sym (final-end (entries (suc h)) noEntry (t .children) (t .own) noNode forks
@@ -209,7 +208,7 @@ module _ (w w₁ : List ℕ) (low h : ℕ) (t : Tree (suc (suc h))) (g : ℕ) (r
 
     -- ---- and from w₂ to w₃ it is mended
 
-    map-same : (q : ℕ) → bitAt (mapOf w₂) q ≡ bitAt (mapOf w₁) q
+    map-same : (q : ℕ) → bitAt (mapIn w₂) q ≡ bitAt (mapIn w₁) q
     map-same q = ap (λ (m : List ℕ). bitAt m q) (only-map (heir .only))
 
     u-times : (q : ℕ) → times q (suc (suc h)) u + sum (same q) (freedAt least (suc h) x o) ≡ times q (suc (suc h)) t
@@ -253,10 +252,10 @@ unfolding Standing step stepFreed removeAt freedAt goneOf nearPages
 leaf-shrinks w w′ low t g r s b takes =
     let held : entries 1 t ≡ t .own = leaf-entries t in
     let size-own : size 1 t ≡ length (t .own) = ap length held in
-    let own : entriesOf most (pageOf w (t .page)) ≡ t .own = sits-own w low 0 t s in
-    let count : countOf (pageOf w (t .page)) ≡ length (t .own) = root-count w 0 t (s .stands) in
-    let some : 1 ≤ countOf (pageOf w (t .page)) = omega (arith, sits-some w low 0 t s) in
-    let few : countOf (pageOf w (t .page)) ≤ most = omega (arith, sits-most w low 0 t s) in
+    let own : entriesOf most (pageIn w (t .page)) ≡ t .own = sits-own w low 0 t s in
+    let count : countOf (pageIn w (t .page)) ≡ length (t .own) = root-count w 0 t (s .stands) in
+    let some : 1 ≤ countOf (pageIn w (t .page)) = omega (arith, sits-some w low 0 t s) in
+    let few : countOf (pageIn w (t .page)) ≤ most = omega (arith, sits-most w low 0 t s) in
     let out : TakesOut (t .page) g w w′ r = rw (leaf-slot (t .children) g (omega (arith, sits-forks w low 0 t s))) at takes in
     record {
       handed = out .answer some few ∙ ap (λ (es : List Entry). goneBy es g) (own ∙ sym held);

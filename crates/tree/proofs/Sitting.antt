@@ -5,14 +5,15 @@ use mathlib.Core.List.{List}
 use Prim.Native.Nat.{ℕ, zero, suc, _≤_, _<_}
 use native.Mathlib.Omega.{arith}
 use lib.ListN.{length}
-use Rattle.model.specs.Layout.{least, pagesIn}
+use Rattle.model.specs.Layout.{pagesIn, today}
 use Rattle.model.specs.Tree.{Tree, size, Formed, Shaped, meets, noTree}
-use Rattle.model.specs.Page.{pageOf, heightOf, entriesOf}
+use Rattle.model.specs.Page.{heightOf, entriesOf}
 use Rattle.model.specs.Standing.{numberOf}
 use Rattle.model.specs.Gap.{slotAt, restAt, child, childAt, gapPages, gapSlots}
 use Rattle.model.specs.Pool.{poolOf}
 use Rattle.model.specs.Sound.{Sound}
-use Rattle.lend.specs.Pages.{most, Inside}
+use Rattle.model.specs.Head.{geometryOf}
+use Rattle.lend.specs.Pages.{least, most, Inside, pageIn}
 use Rattle.tree.specs.declared.search.Below.the-variants as below
 use Rattle.tree.specs.Sits.{PathIn, PathOf, Sits}
 use Rattle.tree.specs.Search.{belowOf}
@@ -25,17 +26,17 @@ use Rattle.lend.proofs.Lent.{page-inside}
 use Rattle.tree.proofs.Saying.{root-met, root-holds, child-stands, child-found}
 
 -- the root's page is one of the pool
-pub root-inside : (w : List ℕ) (low h : ℕ) (t : Tree h) → 0 < h → Sits w low h t → numberOf h t < pagesIn (length w)
+pub root-inside : (w : List ℕ) (low h : ℕ) (t : Tree h) → 0 < h → Sits w low h t → numberOf h t < pagesIn today (length w)
 root-inside w low h t l s = s .inside (numberOf h t) (root-met h t l)
 
 module _ (w : List ℕ) (low h : ℕ) (t : Tree (suc h)) (s : Sits w low (suc h) t) where
   pub sits-inside : Inside (t .page) w
   sits-inside = page-inside w (t .page) (root-inside w low (suc h) t (omega arith) s)
 
-  pub sits-height : heightOf (pageOf w (t .page)) ≡ h
+  pub sits-height : heightOf (pageIn w (t .page)) ≡ h
   sits-height = root-holds w h t (s .stands) .height
 
-  pub sits-own : entriesOf most (pageOf w (t .page)) ≡ t .own
+  pub sits-own : entriesOf most (pageIn w (t .page)) ≡ t .own
   sits-own = root-holds w h t (s .stands) .own
 
   pub sits-some : 1 ≤ length (t .own)
@@ -88,12 +89,12 @@ path-inside w low (suc h) t g ps ss s b p =
 -- ---- a sound pool's
 
 pub sound-sits : (w : List ℕ) → Sound w → Sits w 1 (poolOf w .whole .levels) (poolOf w .whole .tree)
-unfolding Formed meets poolOf
+unfolding Formed meets poolOf geometryOf
 sound-sits w s =
     let r = sound-right w s in
     record {
       some = omega arith;
       stands = sound-written w s .stands;
       shaped = r .formed;
-      inside = λ q met. either-lt q (pagesIn (length w)) (λ l. l) (λ l. absurd (omega (arith, r .inside q l)));
+      inside = λ q met. either-lt q (pagesIn today (length w)) (λ l. l) (λ l. absurd (omega (arith, r .inside q l)));
     }

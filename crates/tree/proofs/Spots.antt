@@ -11,12 +11,10 @@ use lib.ListN.{length, take, getD}
 use lib.Seq.{take-suc, take-all, length-take-le}
 use borrow.Author.Tests.{lt-ltb, le-ltb}
 use Rattle.model.specs.Lists.{All}
-use Rattle.model.specs.Layout.{least}
 use Rattle.model.specs.Tree.{Tree, noEntry, entries, size, Shaped}
-use Rattle.model.specs.Page.{pageOf}
 use Rattle.model.specs.Gap.{slotAt, restAt, child, childAt, gapPages, gapSlots}
 use Rattle.page.specs.Page.{holdsAt}
-use Rattle.lend.specs.Pages.{most, Inside}
+use Rattle.lend.specs.Pages.{least, most, Inside, pageIn}
 use Rattle.tree.specs.declared.steps.Spot.{Spot}
 use Rattle.tree.specs.declared.steps.Spot.the-variants as spot
 use Rattle.tree.specs.Sits.{PathIn, Sits}
@@ -97,10 +95,10 @@ module _ (here : ℕ → ℕ → Spot) where
 within-after : (w : List ℕ) (p s : ℕ) → Inside p w → Within w (hereAfter w p s)
 unfolding hereAfter
 within-after w p s b q i e =
-    either (holdsAt most (pageOf w p) s 0)
+    either (holdsAt most (pageIn w p) s 0)
     (λ y.
     let z : spot.At p s ≡ spot.At q i = rw y at e in
-    let h = holds-facts most (pageOf w p) s 0 y in
+    let h = holds-facts most (pageIn w p) s 0 y in
     let ep : p ≡ q = cc (z) in
     let es : s ≡ i = cc (z) in
     (omega arith, omega arith))
@@ -189,7 +187,7 @@ module _ (w : List ℕ) where
 
 -- ---- what is answered, from the path's end
 
-pub after-lost : (w : List ℕ) (p s : ℕ) → holdsAt most (pageOf w p) s 0 ≡ false → hereAfter w p s ≡ spot.End
+pub after-lost : (w : List ℕ) (p s : ℕ) → holdsAt most (pageIn w p) s 0 ≡ false → hereAfter w p s ≡ spot.End
 unfolding hereAfter
 after-lost w p s n = rw n
 
@@ -204,7 +202,7 @@ unfolding hereBefore
 before-first w p zero l = refl
 before-first w p (suc s) l = absurd (omega arith)
 
-pub before-lost : (w : List ℕ) (p s : ℕ) → 0 < s → holdsAt most (pageOf w p) (s - 1) 0 ≡ false → hereBefore w p s ≡ spot.End
+pub before-lost : (w : List ℕ) (p s : ℕ) → 0 < s → holdsAt most (pageIn w p) (s - 1) 0 ≡ false → hereBefore w p s ≡ spot.End
 before-lost w p s l n = here-before w p s l ∙ after-lost w p (s - 1) n
 
 module _ (w ps ss : List ℕ) (q : PathIn w ps ss) where
@@ -237,10 +235,10 @@ module _ (w ps ss : List ℕ) (q : PathIn w ps ss) where
       abbrev s : ℕ
       s = getD ss j 0
 
-      pub after-here : Left (hereAfter w) ps ss i → holdsAt most (pageOf w p) s 0 ≡ true → SpotAfter w ps ss (spot.At p s)
+      pub after-here : Left (hereAfter w) ps ss i → holdsAt most (pageIn w p) s 0 ≡ true → SpotAfter w ps ss (spot.At p s)
       unfolding hereAfter
       after-here a y = after-said (sym (left-last (hereAfter w) ps ss i j (q .even) a u ∙ rw y))
 
-      pub before-here : Left (hereBefore w) ps ss i → 0 < s → holdsAt most (pageOf w p) (s - 1) 0 ≡ true → SpotBefore w ps ss (spot.At p (s - 1))
+      pub before-here : Left (hereBefore w) ps ss i → 0 < s → holdsAt most (pageIn w p) (s - 1) 0 ≡ true → SpotBefore w ps ss (spot.At p (s - 1))
       unfolding hereAfter
       before-here a l y = before-said (sym (left-last (hereBefore w) ps ss i j (q .even) a u ∙ rw (here-before w p s l, y)))

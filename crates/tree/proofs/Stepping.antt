@@ -7,10 +7,10 @@ use mathlib.Core.List.{List, [], _∷_}
 use Prim.Native.Nat.{ℕ, zero, suc, _-_, _≤_, _<_}
 use native.Mathlib.Omega.{arith}
 use lib.ListN.{length, drop, getD}
-use Rattle.model.specs.Layout.{least}
 use Rattle.model.specs.Tree.{Entry, Tree, noEntry, noTree, entries, size, Rising, Shaped}
 use Rattle.model.specs.Entries.{next, prev, forth, back, gapOf}
 use Rattle.model.specs.Gap.{slotAt, restAt, child, childAt, gapPages, gapSlots, seekPages, seekSlots}
+use Rattle.lend.specs.Pages.{least}
 use Rattle.tree.specs.declared.search.Aim.{Aim}
 use Rattle.tree.specs.declared.search.Aim.the-variants.{Start, End}
 use Rattle.tree.specs.declared.steps.Step.{Step}

@@ -12,14 +12,13 @@ use lib.Dec.{ltb}
 use lib.ListN.{length, getD, set, take, drop, length-drop}
 use lib.Seq.{drop-cons}
 use borrow.Author.Tests.{lt-ltb, le-ltb}
-use Rattle.model.specs.Layout.{least}
 use Rattle.model.specs.Tree.{Entry, Tree, noEntry, entry, entries, size, Rising}
-use Rattle.model.specs.Page.{pageOf, entryIn}
+use Rattle.model.specs.Page.{entryIn}
 use Rattle.model.specs.Standing.{numberOf}
 use Rattle.model.specs.Entries.{next, prev, forth, back}
 use Rattle.model.specs.Gap.{slotAt, restAt, child, childAt, gapPages, seekPages, seekSlots}
 use Rattle.page.specs.Page.{holdsAt}
-use Rattle.lend.specs.Pages.{most}
+use Rattle.lend.specs.Pages.{least, most, pageIn}
 use Rattle.tree.specs.declared.search.Aim.{Aim}
 use Rattle.tree.specs.declared.search.Aim.the-variants.{Start, End}
 use Rattle.tree.specs.declared.search.Below.the-variants as below
@@ -86,9 +85,9 @@ module _ (w : List ℕ) (p at : ℕ) (aim : Aim) (ps ss : List ℕ) where
 -- ---- over an entry of the page
 
 -- what the page's words say of its slots
-pub holds-own : (w : List ℕ) (low h : ℕ) (t : Tree (suc h)) (i : ℕ) → Sits w low (suc h) t → holdsAt most (pageOf w (t .page)) i 0 ≡ ltb i (length (t .own))
+pub holds-own : (w : List ℕ) (low h : ℕ) (t : Tree (suc h)) (i : ℕ) → Sits w low (suc h) t → holdsAt most (pageIn w (t .page)) i 0 ≡ ltb i (length (t .own))
 holds-own w low h t i u =
-    let page = pageOf w (t .page) in
+    let page = pageIn w (t .page) in
     let n = root-count w h t (u .stands) in
     either-lt i (length (t .own))
     (λ l. holds-at most page i 0 (omega (arith, sits-most w low h t u)) (omega arith) (omega arith) ∙ sym (lt-ltb i (length (t .own)) l))
@@ -100,18 +99,18 @@ overBy true k v = step.Entry k v
 overBy false k v = step.Unsound
 
 module _ (w : List ℕ) (s i : ℕ) (aim : Aim) where
-  pub over-end : (ps ss : List ℕ) → holdsAt most (pageOf w (getD ps 0 0)) s 0 ≡ false → Overs w s i aim ps ss ps ss step.End
+  pub over-end : (ps ss : List ℕ) → holdsAt most (pageIn w (getD ps 0 0)) s 0 ≡ false → Overs w s i aim ps ss ps ss step.End
   over-end ps ss n = record {
     pages = refl;
     slots = refl;
     inside = λ k v e. never (cc);
     still = λ _. (refl, refl);
     none = λ low h t u p l. refl;
-    over = λ low h t _ u _ p l _. contrary (ap (λ (q : ℕ). holdsAt most (pageOf w q) s 0) p ∙ holds-own w low h t s u ∙ lt-ltb s (length (t .own)) l) n;
+    over = λ low h t _ u _ p l _. contrary (ap (λ (q : ℕ). holdsAt most (pageIn w q) s 0) p ∙ holds-own w low h t s u ∙ lt-ltb s (length (t .own)) l) n;
   }
 
   pub over-on : {b : Bool} {k v : ℕ} {ps′ ss′ : List ℕ} (ps ss : List ℕ) → 1 ≤ length ps → PathIn w ps ss → i ≤ suc s
-      → holdsAt most (pageOf w (getD ps 0 0)) s 0 ≡ true → entry k v ≡ entryIn most (pageOf w (getD ps 0 0)) s
+      → holdsAt most (pageIn w (getD ps 0 0)) s 0 ≡ true → entry k v ≡ entryIn most (pageIn w (getD ps 0 0)) s
       → Turns w (getD ps 0 0) i aim (behind ps) (behind (set ss 0 i)) ps′ ss′ b
       → Overs w s i aim ps ss (behindBack ps ps′) (behindBack (set ss 0 i) ss′) (overBy b k v)
   over-on [] ss l q f y e c = absurd (omega arith)
@@ -123,7 +122,7 @@ module _ (w : List ℕ) (s i : ℕ) (aim : Aim) where
         inside = λ k′ v′. inside b k′ v′ (c′ .inside);
         still = λ z. absurd (no-end b z);
         none = λ low h t u z n.
-            contrary y (ap (λ (q : ℕ). holdsAt most (pageOf w q) s 0) z ∙ holds-own w low h t s u ∙ le-ltb s (length (t .own)) n);
+            contrary y (ap (λ (q : ℕ). holdsAt most (pageIn w q) s 0) z ∙ holds-own w low h t s u ∙ le-ltb s (length (t .own)) n);
         over = λ low h t z u up g n m. on low h t z u up g n m;
       })
     where
@@ -138,7 +137,7 @@ module _ (w : List ℕ) (s i : ℕ) (aim : Aim) where
       inside false k′ v′ g z = never (cc)
       inside true k′ v′ g z =
           let r = g refl in
-          let h = holds-facts most (pageOf w p) s 0 y in
+          let h = holds-facts most (pageIn w p) s 0 y in
           record { even = ap suc (r .even); inside = (q .inside .0, r .inside); slots = (omega arith, r .slots) }
 
       on : (low h : ℕ) (t : Tree (suc h)) → suc (length ps) ≡ suc h → Sits w low (suc h) t → Rising (entries (suc h) t) → p ≡ t .page
@@ -149,7 +148,7 @@ module _ (w : List ℕ) (s i : ℕ) (aim : Aim) where
           let r = c′ .exact least h (child h t i) (omega arith) (sits-child w low h t u i m) (rising-child w low h t i u up m)
           (λ a. rw g (sits-below w low h t u a i m)) in
           let x : entry k v ≡ getD (t .own) s noEntry =
-          e ∙ ap (λ (q : ℕ). entryIn most (pageOf w q) s) g ∙ own-at (pageOf w (t .page)) s (omega (arith, root-count w h t (u .stands)))
+          e ∙ ap (λ (q : ℕ). entryIn most (pageIn w q) s) g ∙ own-at (pageIn w (t .page)) s (omega (arith, root-count w h t (u .stands)))
           ∙ ap (λ (l : List Entry). getD l s noEntry) (sits-own w low h t u) in
           rw (r .0, r .1, r .2, g) (ap (λ (y : Entry). step.Entry (y .key) (y .value)) x, refl, refl)
 

@@ -10,11 +10,11 @@ use lib.Dec.{ltb}
 use lib.ListN.{length, length-map}
 use borrow.Author.Tests.{ltb-true, leb-true, eqb-true, lt-ltb, le-leb, eq-eqb}
 use Rattle.model.specs.Lists.{All, sum, every, same}
-use Rattle.model.specs.Layout.{least, pagesIn}
-use Rattle.model.specs.PageMap.{mapOf, bitAt}
+use Rattle.model.specs.Layout.{pagesIn, today}
+use Rattle.model.specs.PageMap.{bitAt}
 use Rattle.model.specs.Tree.{Entry, Tree, weave, entries, times, Rising, Shaped, pagesBelow}
-use Rattle.model.specs.Page.{pageOf, countOf, heightOf, entriesOf, childrenOf, readTree, Heights}
-use Rattle.lend.specs.Pages.{most}
+use Rattle.model.specs.Page.{countOf, heightOf, entriesOf, childrenOf, readTree, Heights}
+use Rattle.lend.specs.Pages.{least, most, pageIn, mapIn}
 use Rattle.tree.specs.declared.check.Tally.the-variants as tally
 use Rattle.tree.specs.Check.{standTests, inTurn, overTree}
 use Rattle.model.proofs.Cases.{either, either-lt, either-eq, contrary, same-self, same-other}
@@ -50,28 +50,28 @@ marks-all M f (c ∷ cs) a q l = either-lt 0 (f q c) (a .0 q) (λ z. marks-all M
 
 -- the tree of h levels at page p, as the words have it
 abbrev pub treeAt : List ℕ → (h : ℕ) → ℕ → Tree h
-treeAt w h p = readTree least (pageOf w) h p
+treeAt w h p = readTree least (pageIn w) h p
 
 -- each page of it stands right, whatever was met before
 pub record Fine (w : List ℕ) (h p low : ℕ) : Type 0 where
-  pub heights : Heights least (pageOf w) h p
+  pub heights : Heights least (pageIn w) h p
   pub shaped : Shaped least low h (treeAt w h p)
-  pub marked : (q : ℕ) → 0 < times q h (treeAt w h p) → (q < pagesIn (length w)) × (bitAt (mapOf w) q ≡ 1)
+  pub marked : (q : ℕ) → 0 < times q h (treeAt w h p) → (q < pagesIn today (length w)) × (bitAt (mapIn w) q ≡ 1)
 
 -- what it says of the page itself
 record FinePage (w : List ℕ) (h p low : ℕ) : Type 0 where
-  inside : p < pagesIn (length w)
-  taken : bitAt (mapOf w) p ≡ 1
-  height : heightOf (pageOf w p) ≡ h
-  few : low ≤ countOf (pageOf w p)
-  many : countOf (pageOf w p) ≤ most
+  inside : p < pagesIn today (length w)
+  taken : bitAt (mapIn w) p ≡ 1
+  height : heightOf (pageIn w p) ≡ h
+  few : low ≤ countOf (pageIn w p)
+  many : countOf (pageIn w p) ≤ most
 
 module _ (w : List ℕ) (h p : ℕ) where
   abbrev cs : List ℕ
-  cs = childrenOf most (pageOf w p)
+  cs = childrenOf most (pageIn w p)
 
   abbrev os : List Entry
-  os = entriesOf most (pageOf w p)
+  os = entriesOf most (pageIn w p)
 
   tree-entries : weave (λ c. entries h (treeAt w h c)) cs os ≡ entries (suc h) (treeAt w (suc h) p)
   unfolding entries readTree
@@ -91,16 +91,16 @@ module _ (w : List ℕ) (h p : ℕ) where
       let mark = f .marked p (omega (arith, tree-times p, same-self p)) in
       let few = f .shaped .few in
       let many = f .shaped .many in
-      let long = length-own most (pageOf w p) in
+      let long = length-own most (pageIn w p) in
       record { inside = mark .0; taken = mark .1; height = f .heights .0; few = omega arith; many = omega arith }
 
   fine-below : (low : ℕ) → Fine w (suc h) p low → All (λ c. Fine w h c least) cs
   unfolding Heights Shaped readTree
   fine-below low f =
-      let M : ℕ → Type 0 = λ q. (q < pagesIn (length w)) × (bitAt (mapOf w) q ≡ 1) in
+      let M : ℕ → Type 0 = λ q. (q < pagesIn today (length w)) × (bitAt (mapIn w) q ≡ 1) in
       let marked = marks-each M (λ q c. times q h (treeAt w h c)) cs (λ q l. f .marked q (omega (arith, tree-times q))) in
       let shaped = image-all (treeAt w h) (Shaped least least h) cs (f .shaped .below) in
-      all-both (Heights least (pageOf w) h) (λ c. Shaped least least h (treeAt w h c) × ((q : ℕ) → 0 < times q h (treeAt w h c) → M q)) (λ c. Fine w h c least) cs
+      all-both (Heights least (pageIn w) h) (λ c. Shaped least least h (treeAt w h c) × ((q : ℕ) → 0 < times q h (treeAt w h c) → M q)) (λ c. Fine w h c least) cs
       (λ c x y. record { heights = x; shaped = y .0; marked = y .1 }) (f .heights .1)
       (all-both (λ c. Shaped least least h (treeAt w h c)) (λ c. (q : ℕ) → 0 < times q h (treeAt w h c) → M q)
       (λ c. Shaped least least h (treeAt w h c) × ((q : ℕ) → 0 < times q h (treeAt w h c) → M q)) cs (λ c x y. (x, y)) shaped marked)
@@ -108,14 +108,14 @@ module _ (w : List ℕ) (h p : ℕ) where
   fine-close : (low : ℕ) → FinePage w h p low → All (λ c. Fine w h c least) cs → Fine w (suc h) p low
   unfolding Heights Shaped readTree
   fine-close low f below =
-      let M : ℕ → Type 0 = λ q. (q < pagesIn (length w)) × (bitAt (mapOf w) q ≡ 1) in
+      let M : ℕ → Type 0 = λ q. (q < pagesIn today (length w)) × (bitAt (mapIn w) q ≡ 1) in
       let marked = marks-all M (λ q c. times q h (treeAt w h c)) cs
       (all-map (λ c. Fine w h c least) (λ c. (q : ℕ) → 0 < times q h (treeAt w h c) → M q) cs (λ c x. x .marked) below) in
-      let long = length-own most (pageOf w p) in
+      let long = length-own most (pageIn w p) in
       let few = f .few in
       let many = f .many in
       record {
-        heights = (f .height, all-map (λ c. Fine w h c least) (Heights least (pageOf w) h) cs (λ c x. x .heights) below);
+        heights = (f .height, all-map (λ c. Fine w h c least) (Heights least (pageIn w) h) cs (λ c x. x .heights) below);
         shaped = record {
           forks = simp (length-map, length-own, length-children);
           few = omega arith;
@@ -128,24 +128,24 @@ module _ (w : List ℕ) (h p : ℕ) where
             (λ n. marked q (omega (arith, tree-times q, same-other q p n)));
       }
 
-  page-tests : (low pages : ℕ) → every (standTests w p h low pages) ≡ true → p < pagesIn (length w) → FinePage w h p low
+  page-tests : (low pages : ℕ) → every (standTests w p h low pages) ≡ true → p < pagesIn today (length w) → FinePage w h p low
   page-tests low pages y i =
       let t = every-true (standTests w p h low pages) y in
       record {
         inside = i;
-        taken = eqb-true (bitAt (mapOf w) p) 1 (t .1 .0);
-        height = eqb-true (heightOf (pageOf w p)) h (t .1 .1 .0);
-        few = leb-true low (countOf (pageOf w p)) (t .1 .1 .1 .0);
-        many = leb-true (countOf (pageOf w p)) most (t .1 .1 .1 .1 .0);
+        taken = eqb-true (bitAt (mapIn w) p) 1 (t .1 .0);
+        height = eqb-true (heightOf (pageIn w p)) h (t .1 .1 .0);
+        few = leb-true low (countOf (pageIn w p)) (t .1 .1 .1 .0);
+        many = leb-true (countOf (pageIn w p)) most (t .1 .1 .1 .1 .0);
       }
 
-  tests-page : (low pages : ℕ) → pages < pagesIn (length w) → FinePage w h p low → every (standTests w p h low pages) ≡ true
+  tests-page : (low pages : ℕ) → pages < pagesIn today (length w) → FinePage w h p low → every (standTests w p h low pages) ≡ true
   tests-page low pages l f =
       every-all (standTests w p h low pages) (
-        lt-ltb pages (pagesIn (length w)) l,
+        lt-ltb pages (pagesIn today (length w)) l,
         (
-          eq-eqb (bitAt (mapOf w) p) 1 (f .taken),
-          (eq-eqb (heightOf (pageOf w p)) h (f .height), (le-leb low (countOf (pageOf w p)) (f .few), (le-leb (countOf (pageOf w p)) most (f .many), tt))),
+          eq-eqb (bitAt (mapIn w) p) 1 (f .taken),
+          (eq-eqb (heightOf (pageIn w p)) h (f .height), (le-leb low (countOf (pageIn w p)) (f .few), (le-leb (countOf (pageIn w p)) most (f .many), tt))),
         ),
       )
 
@@ -162,8 +162,8 @@ GoesBelow w h p low a b k es =
     Goes (Fine w h p low × Follows w a es (pagesBelow h (treeAt w h p)) (entries h (treeAt w h p))) (a + pagesBelow h (treeAt w h p))
     (es ++ entries h (treeAt w h p)) (overTree w h p low (tally.Of a b k))
 
-module _ (w : List ℕ) (h p low a b k : ℕ) (es : List Entry) (l : a ≤ pagesIn (length w)) (m : Met es b k)
-    (one : (c a b k : ℕ) (es : List Entry) → a ≤ pagesIn (length w) → Met es b k → GoesBelow w h c least a b k es) where
+module _ (w : List ℕ) (h p low a b k : ℕ) (es : List Entry) (l : a ≤ pagesIn today (length w)) (m : Met es b k)
+    (one : (c a b k : ℕ) (es : List Entry) → a ≤ pagesIn today (length w) → Met es b k → GoesBelow w h c least a b k es) where
   abbrev size : ℕ → ℕ
   size c = pagesBelow h (treeAt w h c)
 
@@ -182,7 +182,7 @@ module _ (w : List ℕ) (h p low a b k : ℕ) (es : List Entry) (l : a ≤ pages
   abbrev Parts : Type 0
   Parts = All (λ c. Fine w h c least) (cs w h p) × Follows w (a + 1) es n xs
 
-  inside-goes : a + 1 ≤ pagesIn (length w) → Goes Parts (a + 1 + n) (es ++ xs) (inTurn w (λ c. overTree w h c least) (cs w h p) (os w h p) (tally.Of (a + 1) b k))
+  inside-goes : a + 1 ≤ pagesIn today (length w) → Goes Parts (a + 1 + n) (es ++ xs) (inTurn w (λ c. overTree w h c least) (cs w h p) (os w h p) (tally.Of (a + 1) b k))
   inside-goes l′ =
       turn-goes w (λ c. overTree w h c least) (λ c. over-stop w h c least) inside size (λ c. Fine w h c least) one (cs w h p) (os w h p) (a + 1) b k es
       (simp (length-own, length-children)) l′ m
@@ -203,20 +203,20 @@ module _ (w : List ℕ) (h p low a b k : ℕ) (es : List Entry) (l : a ≤ pages
   page-goes : GoesBelow w (suc h) p low a b k es
   unfolding overTree
   page-goes =
-      either (ltb p (pagesIn (length w)))
+      either (ltb p (pagesIn today (length w)))
       (λ y. rw y
       (either (every (standTests w p h low a))
       (λ z. rw z
-      (let i = ltb-true p (pagesIn (length w)) y in
-      let t = ltb-true a (pagesIn (length w)) (every-true (standTests w p h low a) z .0) in
+      (let i = ltb-true p (pagesIn today (length w)) y in
+      let t = ltb-true a (pagesIn today (length w)) (every-true (standTests w p h low a) z .0) in
       let e = tree-pages w h p in
       let walk = inTurn w (λ c. overTree w h c least) (cs w h p) (os w h p) (tally.Of (a + 1) b k) in
       goes-map Parts Whole _ _ walk (parts-whole (page-tests w h p low a z i)) whole-parts
       (goes-as Parts (a + 1 + n) _ (es ++ xs) _ walk (omega arith) (ap (λ (r : List Entry). es ++ r) (tree-entries w h p)) (inside-goes (omega arith)))))
       (λ z. rw z (λ g. contrary (whole-tests g) z))))
-      (λ y. rw y (λ g. contrary (lt-ltb p (pagesIn (length w)) (fine-page w h p low (g .0) .inside)) y))
+      (λ y. rw y (λ g. contrary (lt-ltb p (pagesIn today (length w)) (fine-page w h p low (g .0) .inside)) y))
 
-pub tree-goes : (w : List ℕ) (h p low a b k : ℕ) (es : List Entry) → a ≤ pagesIn (length w) → Met es b k → GoesBelow w h p low a b k es
+pub tree-goes : (w : List ℕ) (h p low a b k : ℕ) (es : List Entry) → a ≤ pagesIn today (length w) → Met es b k → GoesBelow w h p low a b k es
 unfolding overTree entries pagesBelow Heights Shaped times readTree
 tree-goes w zero p low a b k es l m = (
   (

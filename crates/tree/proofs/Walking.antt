@@ -12,10 +12,10 @@ use lib.ListN.{length, drop, drop-of-length-le}
 use lib.Seq.{drop-cons}
 use borrow.Author.Tests.{ltb-true, lt-ltb, le-ltb, le-leb}
 use Rattle.model.specs.Lists.{every}
-use Rattle.model.specs.Layout.{least, firstWord, pagesIn}
+use Rattle.model.specs.Layout.{firstWord, pagesIn, today}
 use Rattle.model.specs.Tree.{Entry, entry, noEntry}
-use Rattle.model.specs.Page.{pageOf, countOf, childIn, entryIn, entriesOf, childrenOf}
-use Rattle.lend.specs.Pages.{most, Inside}
+use Rattle.model.specs.Page.{countOf, childIn, entryIn, entriesOf, childrenOf}
+use Rattle.lend.specs.Pages.{least, most, Inside, pageIn}
 use Rattle.tree.specs.declared.check.Tally.{Tally}
 use Rattle.tree.specs.declared.check.Tally.the-variants as tally
 use Rattle.tree.specs.declared.search.Below.the-variants as below
@@ -40,7 +40,7 @@ module _ (w : List ℕ) (p i n : ℕ) where
   entry-numbers a b k a₁ b₁ k₁ e =
       either-lt i n
       (λ l. let one = rw (lt-ltb i n l) at e in
-      either (every (entryTests w (entryIn most (pageOf w p) i) b k))
+      either (every (entryTests w (entryIn most (pageIn w p) i) b k))
       (λ y. let of = rw y at one in let pages : a₁ ≡ a = cc in let more : b₁ ≡ b + 1 = cc in (pages, omega arith, λ m. absurd (omega arith)))
       (λ o. let of = rw o at one in never (cc)))
       (λ l. let of = rw (le-ltb i n l) at e in let pages : a₁ ≡ a = cc in let same : b₁ ≡ b = cc in (pages, omega arith, λ m. same))
@@ -50,7 +50,7 @@ module _ (w : List ℕ) (p i n : ℕ) where
     unfolding overEntryAt
     meet-past l = rw (le-ltb i n l)
 
-    module _ (key value : ℕ) (is : entry key value ≡ entryIn most (pageOf w p) i) (l : i < n) where
+    module _ (key value : ℕ) (is : entry key value ≡ entryIn most (pageIn w p) i) (l : i < n) where
       pub meet-low : keyRises b k key ≡ false → tally.Broken ≡ overEntryAt w p i n (tally.Of a b k)
       unfolding overEntryAt overEntry
       meet-low e = rw (lt-ltb i n l) (subst (λ (x : Entry). tally.Broken ≡ overEntry w x (tally.Of a b k)) is (rw e))
@@ -67,27 +67,27 @@ module _ (w : List ℕ) (p i n : ℕ) where
 
 module _ (w : List ℕ) (p : ℕ) where
   abbrev cs : List ℕ
-  cs = childrenOf most (pageOf w p)
+  cs = childrenOf most (pageIn w p)
 
   abbrev os : List Entry
-  os = entriesOf most (pageOf w p)
+  os = entriesOf most (pageIn w p)
 
   abbrev child : ℕ → ℕ
-  child i = childIn most (pageOf w p) i
+  child i = childIn most (pageIn w p) i
 
-  drop-child : (i : ℕ) → i ≤ countOf (pageOf w p) → drop i cs ≡ child i ∷ drop (suc i) cs
+  drop-child : (i : ℕ) → i ≤ countOf (pageIn w p) → drop i cs ≡ child i ∷ drop (suc i) cs
   unfolding childrenOf
   drop-child i l =
-      drop-cons cs i 0 (omega (arith, length-children most (pageOf w p)))
-      ∙ ap (λ (c : ℕ). c ∷ drop (suc i) cs) (getD-tab (suc (countOf (pageOf w p))) child i 0 (omega arith))
+      drop-cons cs i 0 (omega (arith, length-children most (pageIn w p)))
+      ∙ ap (λ (c : ℕ). c ∷ drop (suc i) cs) (getD-tab (suc (countOf (pageIn w p))) child i 0 (omega arith))
 
-  drop-entry : (i : ℕ) → i < countOf (pageOf w p) → drop i os ≡ entryIn most (pageOf w p) i ∷ drop (suc i) os
+  drop-entry : (i : ℕ) → i < countOf (pageIn w p) → drop i os ≡ entryIn most (pageIn w p) i ∷ drop (suc i) os
   unfolding entriesOf
   drop-entry i l =
-      drop-cons os i noEntry (omega (arith, length-own most (pageOf w p)))
-      ∙ ap (λ (e : Entry). e ∷ drop (suc i) os) (getD-tab (countOf (pageOf w p)) (entryIn most (pageOf w p)) i noEntry l)
+      drop-cons os i noEntry (omega (arith, length-own most (pageIn w p)))
+      ∙ ap (λ (e : Entry). e ∷ drop (suc i) os) (getD-tab (countOf (pageIn w p)) (entryIn most (pageIn w p)) i noEntry l)
 
-  turn-step : (f : ℕ → Tally → Tally) (n i : ℕ) (r : Tally) → n ≡ countOf (pageOf w p) → i ≤ n
+  turn-step : (f : ℕ → Tally → Tally) (n i : ℕ) (r : Tally) → n ≡ countOf (pageIn w p) → i ≤ n
       → inTurn w f (drop i cs) (drop i os) r ≡ inTurn w f (drop (i + 1) cs) (drop (i + 1) os) (overEntryAt w p i n (f (child i) r))
   unfolding inTurn overEntryAt
   turn-step f n i r e l =
@@ -95,13 +95,13 @@ module _ (w : List ℕ) (p : ℕ) where
       either-lt i n
       (λ m. let after = drop-entry i (omega arith) in rw (here, after, add-one i, lt-ltb i n m))
       (λ m.
-      let none : drop i os ≡ [] = drop-of-length-le os {i = i} (omega (arith, length-own most (pageOf w p))) in
-      let end : drop (suc i) cs ≡ [] = drop-of-length-le cs {i = suc i} (omega (arith, length-children most (pageOf w p))) in
+      let none : drop i os ≡ [] = drop-of-length-le os {i = i} (omega (arith, length-own most (pageIn w p))) in
+      let end : drop (suc i) cs ≡ [] = drop-of-length-le cs {i = suc i} (omega (arith, length-children most (pageIn w p))) in
       rw (here, none, add-one i, end, le-ltb i n m))
 
-  turn-end : (f : ℕ → Tally → Tally) (n i : ℕ) (r : Tally) → n ≡ countOf (pageOf w p) → n < i → inTurn w f (drop i cs) (drop i os) r ≡ r
+  turn-end : (f : ℕ → Tally → Tally) (n i : ℕ) (r : Tally) → n ≡ countOf (pageIn w p) → n < i → inTurn w f (drop i cs) (drop i os) r ≡ r
   unfolding inTurn
-  turn-end f n i r e l = let end : drop i cs ≡ [] = drop-of-length-le cs {i = i} (omega (arith, length-children most (pageOf w p))) in rw end
+  turn-end f n i r e l = let end : drop i cs ≡ [] = drop-of-length-le cs {i = i} (omega (arith, length-children most (pageIn w p))) in rw end
 
 -- ---- the loop
 
@@ -119,36 +119,36 @@ module _ (w : List ℕ) (p h low pages count last : ℕ) where
   pub stand-broken : every (standTests w p h low pages) ≡ false → Walks w p h low pages count last tally.Broken
   unfolding overTree
   stand-broken e =
-      walks-broken (either (ltb p (pagesIn (length w))) (λ y. rw (y, e)) (λ n. rw n))
+      walks-broken (either (ltb p (pagesIn today (length w))) (λ y. rw (y, e)) (λ n. rw n))
 
   -- before child i: n entries are in the page
   pub record Going (n i a b k : ℕ) : Type 0 where
     pub le : i ≤ n + 1
-    pub few : a ≤ pagesIn (length w)
+    pub few : a ≤ pagesIn today (length w)
     pub so-far : b + most * (pages + 1) ≤ count + most * a + i
     pub in-all : b + most * (pages + 1) ≤ count + most * a + n
     pub rest : inTurn w f (drop i (cs w p)) (drop i (os w p)) (tally.Of a b k) ≡ whole
 
-  pub going-start : (n : ℕ) → firstWord 0 ≤ length w → Inside p w → every (standTests w p h low pages) ≡ true → Going n 0 (pages + 1) count last
+  pub going-start : (n : ℕ) → firstWord today 0 ≤ length w → Inside p w → every (standTests w p h low pages) ≡ true → Going n 0 (pages + 1) count last
   unfolding overTree
   going-start n l i y =
-      let t = ltb-true pages (pagesIn (length w)) (every-true (standTests w p h low pages) y .0) in
+      let t = ltb-true pages (pagesIn today (length w)) (every-true (standTests w p h low pages) y .0) in
       record {
         le = omega arith;
         few = omega arith;
         so-far = omega arith;
         in-all = omega arith;
-        rest = rw (lt-ltb p (pagesIn (length w)) (omega arith), y);
+        rest = rw (lt-ltb p (pagesIn today (length w)) (omega arith), y);
       }
 
   -- child i was walked
   pub record Child (i a b k a₁ b₁ k₁ : ℕ) : Type 0 where
-    pub few : a₁ ≤ pagesIn (length w)
+    pub few : a₁ ≤ pagesIn today (length w)
     pub more : b₁ + most * a ≤ b + most * a₁
     pub walked : f (child w p i) (tally.Of a b k) ≡ tally.Of a₁ b₁ k₁
 
   -- a leaf's children are trees of no levels
-  pub child-none : (i a b k : ℕ) → h ≤ 0 → a ≤ pagesIn (length w) → Child i a b k a b k
+  pub child-none : (i a b k : ℕ) → h ≤ 0 → a ≤ pagesIn today (length w) → Child i a b k a b k
   unfolding overTree
   child-none i a b k z l = record { few = l; more = omega arith; walked = none h z }
     where
@@ -157,13 +157,13 @@ module _ (w : List ℕ) (p h low pages count last : ℕ) where
       none (suc h) z = absurd (omega arith)
 
   -- its page lies inside the pool
-  pub below-found : (i c : ℕ) → below.Page c ≡ belowOf w p i → (c ≡ child w p i) × (c < pagesIn (length w))
+  pub below-found : (i c : ℕ) → below.Page c ≡ belowOf w p i → (c ≡ child w p i) × (c < pagesIn today (length w))
   unfolding belowOf
   below-found i c e =
       either (leb i most)
       (λ y. let e₁ = rw y at e in
-      either (ltb (child w p i) (pagesIn (length w)))
-      (λ z. let e₂ = rw z at e₁ in let here : c ≡ child w p i = cc in let inside = ltb-true (child w p i) (pagesIn (length w)) z in (here, omega arith))
+      either (ltb (child w p i) (pagesIn today (length w)))
+      (λ z. let e₂ = rw z at e₁ in let here : c ≡ child w p i = cc in let inside = ltb-true (child w p i) (pagesIn today (length w)) z in (here, omega arith))
       (λ z. let e₂ = rw z at e₁ in never (cc)))
       (λ y. let e₁ = rw y at e in never (cc))
 
@@ -177,7 +177,7 @@ module _ (w : List ℕ) (p h low pages count last : ℕ) where
   child-some i c a b k a₁ b₁ k₁ l e x =
       record { few = x .few .0; more = x .few .1; walked = child-exact i c a b k (tally.Of a₁ b₁ k₁) l (below-found i c e .0) x }
 
-  module _ (n i a b k : ℕ) (g : Going n i a b k) (is : n ≡ countOf (pageOf w p)) where
+  module _ (n i a b k : ℕ) (g : Going n i a b k) (is : n ≡ countOf (pageIn w p)) where
     pub going-step : (a₁ b₁ k₁ a₂ b₂ k₂ : ℕ) → i ≤ n → Child i a b k a₁ b₁ k₁ → tally.Of a₂ b₂ k₂ ≡ overEntryAt w p i n (tally.Of a₁ b₁ k₁)
         → Going n (i + 1) a₂ b₂ k₂
     going-step a₁ b₁ k₁ a₂ b₂ k₂ l c e =
@@ -213,10 +213,10 @@ module _ (w : List ℕ) (p h low pages count last : ℕ) where
     unfolding belowOf overTree
     below-broken l m z e = child-broken l (outside h z)
       where
-        out : ltb (child w p i) (pagesIn (length w)) ≡ false
+        out : ltb (child w p i) (pagesIn today (length w)) ≡ false
         out =
             let e₁ = rw (le-leb i most (omega arith)) at e in
-            either (ltb (child w p i) (pagesIn (length w)))
+            either (ltb (child w p i) (pagesIn today (length w)))
             (λ y. let e₂ = rw y at e₁ in never (cc))
             (λ y. y)
 

@@ -10,19 +10,20 @@ use lib.ListN.{length, take, drop, getD, set, length-set}
 use lib.Seq.{map-set-same, getD-set-same, getD-set-other}
 use borrow.Author.Tests.{lt-ltb, le-ltb}
 use Rattle.model.specs.Lists.{All, sum, same}
-use Rattle.model.specs.Layout.{mostEntries, least, firstWord, word}
+use Rattle.model.specs.Layout.{mostEntries, firstWord, word, today}
 use Rattle.model.specs.Tree.{Entry, Tree, noEntry, noTree, entries, size, times, Shaped, held, entry, Formed, meets}
-use Rattle.model.specs.Page.{countOf, heightOf, entriesOf, nodeOf, Holds, entryIn, pageOf}
+use Rattle.model.specs.Page.{countOf, heightOf, entriesOf, nodeOf, Holds, entryIn}
 use Rattle.model.specs.Standing.{rootOf, numberOf, Standing}
 use Rattle.model.specs.Gap.{slotAt, restAt, childAt}
 use Rattle.model.specs.Write.{writeAt, write}
 use Rattle.model.specs.Pool.{Pool, heldBy, poolOf}
 use Rattle.model.specs.Sound.{Sound}
 use Rattle.model.specs.Written.{Written}
+use Rattle.model.specs.Head.{geometryOf}
 use Rattle.page.specs.declared.Change.{Change}
 use Rattle.page.specs.Node.{instead}
 use Rattle.page.specs.Page.{holdsAt}
-use Rattle.lend.specs.Pages.{most, ChangesIn, nodeIn}
+use Rattle.lend.specs.Pages.{least, most, ChangesIn, nodeIn, pageIn}
 use Rattle.tree.specs.declared.steps.Spot.{Spot}
 use Rattle.tree.specs.declared.steps.Spot.the-variants as spot
 use Rattle.tree.specs.Steps.{spotOf}
@@ -40,7 +41,7 @@ use Rattle.page.proofs.Pages.{holds-at}
 use Rattle.lend.proofs.Lent.{own-at}
 use Rattle.lend.proofs.Touching.{only-map, front-word}
 use Rattle.tree.proofs.Spots.{spot-some, spot-end}
-use Rattle.tree.proofs.Leaving.{Leaves, leaves-written, head-word, key-stays}
+use Rattle.tree.proofs.Leaving.{Leaves, leaves-written, head-word, key-stays, written-bits, written-stands, written-formed}
 
 -- ---- entry g of a tree, at slot s of page p
 
@@ -166,24 +167,24 @@ set-keys es g e b k i =
     (λ other. ap (λ (x : Entry). x .key) (getD-set-other es g i e noEntry other))
 
 module _ (w : List ℕ) (P : Pool) (r : Right P) (a : Written w P) (g p s : ℕ) (b : g < length (heldBy P)) (at : spotOf (P .whole .levels) (P .whole .tree) g ≡ spot.At p s) where
-  pool-spotted : Spotted least (pageOf w) (P .whole .levels) (P .whole .tree) g p s
+  pool-spotted : Spotted least (pageIn w) (P .whole .levels) (P .whole .tree) g p s
   unfolding held Formed
-  pool-spotted = spotted least 1 (pageOf w) (P .whole .levels) (P .whole .tree) g p s (r .formed) (a .stands) b at
+  pool-spotted = spotted least 1 (pageIn w) (P .whole .levels) (P .whole .tree) g p s (written-formed a r) (written-stands a) b at
 
   -- the entry that is read there
-  pub spot-entry : entryIn most (pageOf w p) s ≡ getD (heldBy P) g noEntry
+  pub spot-entry : entryIn most (pageIn w p) s ≡ getD (heldBy P) g noEntry
   unfolding held
-  spot-entry = own-at (pageOf w p) s (pool-spotted .slot) ∙ sym (pool-spotted .entry)
+  spot-entry = own-at (pageIn w p) s (pool-spotted .slot) ∙ sym (pool-spotted .entry)
 
   pub write-leaves : (w′ : List ℕ) (e : Entry) (c : Change) → e .key ≡ getD (heldBy P) g noEntry .key
-      → ChangesIn p (holdsAt most (pageOf w p) s 0) (instead s e (nodeIn w p)) w w′ c → Leaves w P (write (P .whole) g e) w′
+      → ChangesIn p (holdsAt most (pageIn w p) s 0) (instead s e (nodeIn w p)) w w′ c → Leaves w P (write (P .whole) g e) w′
   unfolding held Formed meets write
   write-leaves w′ e c k changes =
       let h = P .whole .levels in
       let t = P .whole .tree in
-      let after : held (write (P .whole) g e) ≡ set (heldBy P) g e = write-held least (P .whole) g e (r .formed) b in
-      let same : (i : ℕ) → i < firstWord 0 → word w′ i ≡ word w i = front-word (firstWord 0) w w′ (changes .only .front) in
-      let holds = changes .holds (holds-at most (pageOf w p) s 0 (pool-spotted .many) (pool-spotted .slot) (omega arith)) in
+      let after : held (write (P .whole) g e) ≡ set (heldBy P) g e = write-held least (P .whole) g e (written-formed a r) b in
+      let same : (i : ℕ) → i < firstWord today 0 → word w′ i ≡ word w i = front-word (firstWord today 0) w w′ (changes .only .front) in
+      let holds = changes .holds (holds-at most (pageIn w p) s 0 (pool-spotted .many) (pool-spotted .slot) (omega arith)) in
       record {
         long = changes .only .long;
         words = λ i l _ _ _. same i (omega arith);
@@ -191,8 +192,8 @@ module _ (w : List ℕ) (P : Pool) (r : Right P) (a : Written w P) (g p s : ℕ)
         root = same 3 (omega arith) ∙ head-word a 3 (omega arith) ∙ sym (write-at-root h t g e);
         levels = same 4 (omega arith) ∙ head-word a 4 (omega arith);
         key = key-stays (heldBy P) (held (write (P .whole) g e)) (P .cursor) (λ i _. rw after (set-keys (heldBy P) g e b k i));
-        bits = λ q. rw (only-map (changes .only)) (a .bits q ∙ sym (write-meets least (P .whole) g e (r .formed) b q));
-        stands = write-stands least (pageOf w) (pageOf w′) p s e (λ q n. sym (changes .only .others q (n, tt))) holds 1 h t g (r .formed) (a .stands) b (r .once) at;
+        bits = λ q. rw (only-map (changes .only)) (written-bits a q ∙ sym (write-meets least (P .whole) g e (written-formed a r) b q));
+        stands = write-stands least (pageIn w) (pageIn w′) p s e (λ q n. sym (changes .only .others q (n, tt))) holds 1 h t g (written-formed a r) (written-stands a) b (r .once) at;
       }
 
 -- in a sound pool: what the spot of a gap says of the entry after it
@@ -200,8 +201,8 @@ module _ (w : List ℕ) (sound : Sound w) (g : ℕ) (within : g ≤ length (held
   abbrev spotted-by : Spot
   spotted-by = spotOf (poolOf w .whole .levels) (poolOf w .whole .tree) g
 
-  pub spot-there : {p s : ℕ} → spotted-by ≡ spot.At p s → (g < length (heldBy (poolOf w))) × (entryIn most (pageOf w p) s ≡ getD (heldBy (poolOf w)) g noEntry)
-  unfolding held Formed
+  pub spot-there : {p s : ℕ} → spotted-by ≡ spot.At p s → (g < length (heldBy (poolOf w))) × (entryIn most (pageIn w p) s ≡ getD (heldBy (poolOf w)) g noEntry)
+  unfolding held Formed poolOf geometryOf
   spot-there {p} {s} e =
       let P = poolOf w in
       let right = sound-right w sound in
@@ -211,7 +212,7 @@ module _ (w : List ℕ) (sound : Sound w) (g : ℕ) (within : g ≤ length (held
       (there, spot-entry w P right (sound-written w sound) g p s there e)
 
   pub spot-past : spotted-by ≡ spot.End → length (heldBy (poolOf w)) ≤ g
-  unfolding held Formed
+  unfolding held Formed poolOf geometryOf
   spot-past e =
       let P = poolOf w in
       either-lt g (length (heldBy P))
@@ -221,8 +222,8 @@ module _ (w : List ℕ) (sound : Sound w) (g : ℕ) (within : g ≤ length (held
       (λ l. l)
 
 -- the value of the entry that is read is put into its place
-pub writes : (w w′ : List ℕ) (p s key before v : ℕ) (c : Change) → entry key before ≡ entryIn most (pageOf w p) s
-    → ChangesIn p (holdsAt most (pageOf w p) s 0) (instead s (entry key v) (nodeIn w p)) w w′ c → Writes p s v w w′ before
+pub writes : (w w′ : List ℕ) (p s key before v : ℕ) (c : Change) → entry key before ≡ entryIn most (pageIn w p) s
+    → ChangesIn p (holdsAt most (pageIn w p) s 0) (instead s (entry key v) (nodeIn w p)) w w′ c → Writes p s v w w′ before
 writes w w′ p s key before v c e changes = record {
   only = changes .only;
   before = λ g sound b at.

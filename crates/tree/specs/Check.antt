@@ -8,14 +8,14 @@ use Prim.Native.Nat.{ℕ, zero, suc, _+_, _*_, _≤_}
 use lib.Dec.{leb, ltb, eqb}
 use lib.ListN.{length}
 use Rattle.model.specs.Lists.{every}
-use Rattle.model.specs.Layout.{least, pagesIn}
+use Rattle.model.specs.Layout.{pagesIn, today}
 use Rattle.model.specs.Head.{openWord, afterWord, keyWord, kindWord}
-use Rattle.model.specs.PageMap.{mapOf, bitAt}
+use Rattle.model.specs.PageMap.{bitAt}
 use Rattle.model.specs.Tree.{Entry, Rising, held}
-use Rattle.model.specs.Page.{pageOf, countOf, heightOf, entryIn, entriesOf, childrenOf}
+use Rattle.model.specs.Page.{countOf, heightOf, entryIn, entriesOf, childrenOf}
 use Rattle.model.specs.Entries.{has}
 use Rattle.model.specs.Pool.{wholeOf}
-use Rattle.lend.specs.Pages.{most}
+use Rattle.lend.specs.Pages.{least, most, pageIn, mapIn}
 use Rattle.tree.specs.declared.check.Tally.{Tally}
 use Rattle.tree.specs.declared.check.Tally.the-variants as tally
 use Rattle.tree.specs.Sits.{Sits}
@@ -25,11 +25,11 @@ use Rattle.tree.specs.Sits.{Sits}
 -- page p is met after `pages` others of P; it is taken, has height h and holds `low` to nine entries
 abbrev pub standTests : List ℕ → ℕ → ℕ → ℕ → ℕ → List Bool
 standTests w p h low pages =
-    ltb pages (pagesIn (length w))
-    ∷ eqb (bitAt (mapOf w) p) 1
-    ∷ eqb (heightOf (pageOf w p)) h
-    ∷ leb low (countOf (pageOf w p))
-    ∷ leb (countOf (pageOf w p)) most
+    ltb pages (pagesIn today (length w))
+    ∷ eqb (bitAt (mapIn w) p) 1
+    ∷ eqb (heightOf (pageIn w p)) h
+    ∷ leb low (countOf (pageIn w p))
+    ∷ leb (countOf (pageIn w p)) most
     ∷ []
 
 -- ---- one entry
@@ -52,7 +52,7 @@ overEntry w e tally.Broken = tally.Broken
 
 -- entry i of page p, where it is one of n
 unfoldable pub overEntryAt : List ℕ → ℕ → ℕ → ℕ → Tally → Tally
-overEntryAt w p i n r = cond (ltb i n) (overEntry w (entryIn most (pageOf w p) i) r) r
+overEntryAt w p i n r = cond (ltb i n) (overEntry w (entryIn most (pageIn w p) i) r) r
 
 -- ---- the walk
 
@@ -67,13 +67,13 @@ unfoldable pub overTree : List ℕ → (h p low : ℕ) → Tally → Tally
 overTree w zero p low r = r
 overTree w (suc h) p low tally.Broken = tally.Broken
 overTree w (suc h) p low (tally.Of pages count last) =
-    cond (every (ltb p (pagesIn (length w)) ∷ standTests w p h low pages))
-    (inTurn w (λ c. overTree w h c least) (childrenOf most (pageOf w p)) (entriesOf most (pageOf w p)) (tally.Of (pages + 1) count last))
+    cond (every (ltb p (pagesIn today (length w)) ∷ standTests w p h low pages))
+    (inTurn w (λ c. overTree w h c least) (childrenOf most (pageIn w p)) (entriesOf most (pageIn w p)) (tally.Of (pages + 1) count last))
     tally.Broken
 
 -- on any words: no more pages than there are, and at most nine entries a page
 abbrev pub Few : List ℕ → ℕ → ℕ → Tally → Type 0
-Few w pages count (tally.Of a b k) = (a ≤ pagesIn (length w)) × (b + most * pages ≤ count + most * a)
+Few w pages count (tally.Of a b k) = (a ≤ pagesIn today (length w)) × (b + most * pages ≤ count + most * a)
 Few w pages count tally.Broken = Unit {0}
 
 -- over page p, of height h, and all below it

@@ -7,11 +7,11 @@ use mathlib.Core.List.{List, [], _∷_, _++_}
 use Prim.Native.Nat.{ℕ, suc, _+_, _≤_, _<_}
 use lib.ListN.{length, take, getD}
 use Rattle.model.specs.Lists.{tab, All, sumTo, same}
-use Rattle.model.specs.Layout.{headWords, least, pagesIn, word}
+use Rattle.model.specs.Layout.{headWords, pagesIn, word, today}
 use Rattle.model.specs.Head.{rootWord, levelsWord}
-use Rattle.model.specs.PageMap.{mapOf, bitAt}
+use Rattle.model.specs.PageMap.{bitAt}
 use Rattle.model.specs.Tree.{Entry, Node, Tree, size, times, noEntry}
-use Rattle.model.specs.Page.{pageOf, countOf, heightOf, Holds}
+use Rattle.model.specs.Page.{countOf, heightOf, Holds}
 use Rattle.model.specs.Standing.{numberOf, Standing}
 use Rattle.model.specs.Gap.{gapPages}
 use Rattle.model.specs.Insert as insertion
@@ -23,7 +23,7 @@ use Rattle.pagemap.specs.declared.Lowest.the-variants as lowest
 use Rattle.pagemap.specs.Bits.{setBit}
 use Rattle.pagemap.specs.Lowest.{freeIn, firstOf}
 use Rattle.page.specs.Node.{alone, wider}
-use Rattle.lend.specs.Pages.{most, keeps, OnlyPages, nodeIn, Becomes}
+use Rattle.lend.specs.Pages.{least, most, keeps, OnlyPages, nodeIn, Becomes, pageIn, mapIn}
 use Rattle.lend.specs.Touches.{Touches}
 use Rattle.tree.specs.declared.insert.Inserted.{Inserted}
 use Rattle.tree.specs.declared.insert.Inserted.the-variants as inserted
@@ -33,7 +33,7 @@ use Rattle.tree.specs.Sits.{PathOf, Sits, AtGap}
 
 -- the free pages by the map's words, lowest first
 abbrev pub freesIn : List ℕ → List ℕ
-freesIn w = freeIn (mapOf w) (pagesIn (length w))
+freesIn w = freeIn (mapIn w) (pagesIn today (length w))
 
 abbrev pub freshIn : List ℕ → ℕ → ℕ
 freshIn w k = getD (freesIn w) k 0
@@ -43,7 +43,7 @@ freshIn w k = getD (freesIn w) k 0
 -- along a path, root first: the number of full pages in an unbroken run from the last page upward
 unfoldable pub runOn : List ℕ → List ℕ → ℕ
 runOn w [] = 0
-runOn w (p ∷ ps) = onward least (length ps) (countOf (pageOf w p)) (runOn w ps)
+runOn w (p ∷ ps) = onward least (length ps) (countOf (pageIn w p)) (runOn w ps)
 
 pub record Needs (w ps : List ℕ) (r : ℕ) : Type 0 where
   pub most : r ≤ suc (length ps)
@@ -66,21 +66,21 @@ pub record Fits (p slot : ℕ) (e : Entry) (child : ℕ) (w w′ : List ℕ) (r 
 pub record Parts (p q slot : ℕ) (e : Entry) (child : ℕ) (w w′ : List ℕ) (r : Up) : Type 0 where
   pub answer : let x = getD (fuller w p slot e child .own) keeps noEntry in r ≡ up.Split (x .key) (x .value) q
   pub left : Becomes p (cutLeft keeps (fuller w p slot e child)) w w′
-  pub right : Holds most (heightOf (pageOf w p)) (cutRight q keeps (fuller w p slot e child)) (pageOf w′ q)
-  pub map : mapOf w′ ≡ setBit (mapOf w) q
+  pub right : Holds most (heightOf (pageIn w p)) (cutRight q keeps (fuller w p slot e child)) (pageIn w′ q)
+  pub map : mapIn w′ ≡ setBit (mapIn w) q
   pub touches : Touches (p ∷ q ∷ []) w w′
 
 pub record Puts (p slot : ℕ) (e : Entry) (child : ℕ) (w w′ : List ℕ) (r : Up) : Type 0 where
   pub long : length w′ ≡ length w
   pub head : take headWords w′ ≡ take headWords w
-  pub fits : 1 ≤ countOf (pageOf w p) → countOf (pageOf w p) < most → slot ≤ countOf (pageOf w p) → Fits p slot e child w w′ r
-  pub parts : (q : ℕ) → countOf (pageOf w p) ≡ most → slot ≤ most → firstOf (freesIn w) ≡ lowest.Page q → p ≢ q → Parts p q slot e child w w′ r
+  pub fits : 1 ≤ countOf (pageIn w p) → countOf (pageIn w p) < most → slot ≤ countOf (pageIn w p) → Fits p slot e child w w′ r
+  pub parts : (q : ℕ) → countOf (pageIn w p) ≡ most → slot ≤ most → firstOf (freesIn w) ≡ lowest.Page q → p ≢ q → Parts p q slot e child w w′ r
 
 -- ---- a tree
 
 -- each page of the tree is met at most as often as its bit says
 abbrev pub Marked : List ℕ → (h : ℕ) → Tree h → Type 0
-Marked w h t = (q : ℕ) → times q h t ≤ bitAt (mapOf w) q
+Marked w h t = (q : ℕ) → times q h t ≤ bitAt (mapIn w) q
 
 -- what is handed up, by page numbers
 abbrev pub upOf : (h : ℕ) → insertion.Up (Tree h) → Up
@@ -88,8 +88,8 @@ upOf h (whole t) = up.Whole
 upOf h (split l e r) = up.Split (e .key) (e .value) (numberOf h r)
 
 abbrev pub UpStands : List ℕ → (h : ℕ) → insertion.Up (Tree h) → Type 0
-UpStands w h (whole t) = Standing least (pageOf w) h t
-UpStands w h (split l e r) = Standing least (pageOf w) h l × Standing least (pageOf w) h r
+UpStands w h (whole t) = Standing least (pageIn w) h t
+UpStands w h (split l e r) = Standing least (pageIn w) h l × Standing least (pageIn w) h r
 
 -- the pages that an insertion below may change: those of the path, and the fresh ones
 abbrev pub grownPages : List ℕ → (h : ℕ) → Tree h → ℕ → List ℕ
@@ -98,7 +98,7 @@ grownPages w h t g = gapPages h t g ++ tab (run least h t g) (freshIn w)
 pub record Grows (w : List ℕ) (h : ℕ) (t : Tree h) (g : ℕ) (e : Entry) (w′ : List ℕ) (r : Up) : Type 0 where
   pub handed : r ≡ upOf h (insertAt least (freshIn w) h t g e)
   pub stands : UpStands w′ h (insertAt least (freshIn w) h t g e)
-  pub bits : (q : ℕ) → bitAt (mapOf w′) q ≡ bitAt (mapOf w) q + sumTo (λ i. same q (freshIn w i)) (run least h t g)
+  pub bits : (q : ℕ) → bitAt (mapIn w′) q ≡ bitAt (mapIn w) q + sumTo (λ i. same q (freshIn w i)) (run least h t g)
   pub touches : Touches (grownPages w h t g) w w′
 
 pub record InsertsBelow (w ps ss : List ℕ) (e : Entry) (w′ : List ℕ) (r : Up) : Type 0 where
@@ -117,10 +117,10 @@ pub record Rooted (r h : ℕ) (w w′ : List ℕ) : Type 0 where
 
 -- page q is the root of a level more
 pub record Tops (q levels : ℕ) (e : Entry) (l r : ℕ) (w w′ : List ℕ) : Type 0 where
-  pub holds : Holds most levels (alone e l r) (pageOf w′ q)
+  pub holds : Holds most levels (alone e l r) (pageIn w′ q)
   pub rooted : Rooted (suc q) (suc levels) w w′
-  pub map : mapOf w′ ≡ setBit (mapOf w) q
-  pub others : (p : ℕ) → p ≢ q → pageOf w′ p ≡ pageOf w p
+  pub map : mapIn w′ ≡ setBit (mapIn w) q
+  pub others : (p : ℕ) → p ≢ q → pageIn w′ p ≡ pageIn w p
 
 pub record NewRoots (levels : ℕ) (e : Entry) (l r : ℕ) (w w′ : List ℕ) : Type 0 where
   pub long : length w′ ≡ length w
@@ -139,4 +139,4 @@ pub record Inserts (w ps ss : List ℕ) (e : Entry) (w′ : List ℕ) (r : Inser
   pub exact : AtGap w ps ss (λ g. r ≡ insertedBy (crowded g (poolOf w)))
   pub holds : AtGap w ps ss (λ g. gapBy (poolOf w) ≤ g → crowded g (poolOf w) ≡ false → Written w′ (putAt g e (poolOf w)))
   pub others : AtGap w ps ss (λ g. crowded g (poolOf w) ≡ false
-      → (q : ℕ) → All (λ p. q ≢ p) (ps ++ tab (needed least (poolOf w .whole) g) (freshOf (poolOf w))) → pageOf w′ q ≡ pageOf w q)
+      → (q : ℕ) → All (λ p. q ≢ p) (ps ++ tab (needed least (poolOf w .whole) g) (freshOf (poolOf w))) → pageIn w′ q ≡ pageIn w q)

@@ -8,9 +8,9 @@ use mathlib.Core.List.{List}
 use Prim.Native.Nat.{ℕ, suc, _+_}
 use lib.Dec.{leb, ltb, eqb}
 use lib.ListN.{length}
-use Rattle.model.specs.Layout.{pagesIn}
+use Rattle.model.specs.Layout.{pagesIn, today}
 use Rattle.model.specs.Tree.{Tree}
-use Rattle.model.specs.Page.{pageOf, heightOf, childIn}
+use Rattle.model.specs.Page.{heightOf, childIn}
 use Rattle.model.specs.Entries.{lookup, gapOf}
 use Rattle.model.specs.Gap.{Found, seekPages, seekSlots, find}
 use Rattle.model.specs.Pool.{heldBy, poolOf}
@@ -21,7 +21,7 @@ use Rattle.page.specs.declared.Place.the-variants as place
 use Rattle.page.specs.declared.Slot.{Slot}
 use Rattle.page.specs.declared.Slot.the-variants as slot
 use Rattle.page.specs.Page.{gapIn, placeOf}
-use Rattle.lend.specs.Pages.{most}
+use Rattle.lend.specs.Pages.{most, pageIn}
 use Rattle.tree.specs.declared.search.Aim.{Aim}
 use Rattle.tree.specs.declared.search.Aim.the-variants.{Before, After, Start, End}
 use Rattle.tree.specs.declared.search.Below.{Below}
@@ -35,16 +35,16 @@ use Rattle.tree.specs.Sits.{PathIn, PathOf, Sits, From}
 -- the child at a place, where there can be one and its number lies inside the pool
 unfoldable pub belowOf : List ℕ → ℕ → ℕ → Below
 belowOf w p at =
-    let c = childIn most (pageOf w p) at in
-    cond (leb at most) (cond (ltb c (pagesIn (length w))) (below.Page c) below.Unsound) below.Unsound
+    let c = childIn most (pageIn w p) at in
+    cond (leb at most) (cond (ltb c (pagesIn today (length w))) (below.Page c) below.Unsound) below.Unsound
 
 -- where a key belongs in page p, whose height is to be h
 unfoldable pub placeAt : List ℕ → ℕ → ℕ → ℕ → Place
-placeAt w p h k = cond (eqb (heightOf (pageOf w p)) h) (placeOf most (pageOf w p) k) place.Unsound
+placeAt w p h k = cond (eqb (heightOf (pageIn w p)) h) (placeOf most (pageIn w p) k) place.Unsound
 
 -- the slot of the gap after the entries of page p, whose height is to be h, whose keys pass a test
 unfoldable pub slotBy : List ℕ → ℕ → ℕ → (ℕ → Bool) → Slot
-slotBy w p h before = cond (eqb (heightOf (pageOf w p)) h) (gapIn most (pageOf w p) before) slot.Unsound
+slotBy w p h before = cond (eqb (heightOf (pageIn w p)) h) (gapIn most (pageIn w p) before) slot.Unsound
 
 -- ---- what is looked for: a gap, by the keys that come before it
 

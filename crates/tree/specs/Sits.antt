@@ -5,14 +5,13 @@ use mathlib.Core.List.{List}
 use Prim.Native.Nat.{ℕ, suc, _≤_, _<_}
 use lib.ListN.{length}
 use Rattle.model.specs.Lists.{All}
-use Rattle.model.specs.Layout.{least, pagesIn}
+use Rattle.model.specs.Layout.{pagesIn, today}
 use Rattle.model.specs.Tree.{Tree, entries, size, times, Rising, Shaped}
-use Rattle.model.specs.Page.{pageOf}
 use Rattle.model.specs.Standing.{Standing}
 use Rattle.model.specs.Gap.{gapPages, gapSlots}
 use Rattle.model.specs.Pool.{heldBy, poolOf}
 use Rattle.model.specs.Sound.{Sound}
-use Rattle.lend.specs.Pages.{most, Inside}
+use Rattle.lend.specs.Pages.{least, most, Inside, pageIn}
 
 -- a path inside the pool: a page and a slot for each level, root first
 pub record PathIn (w ps ss : List ℕ) : Type 0 where
@@ -28,9 +27,9 @@ pub record PathOf (h : ℕ) (t : Tree h) (g : ℕ) (ps ss : List ℕ) : Type 0 w
 -- a tree in the pool: its pages stand there, each inside; its root has `low` entries or more, at least 1
 pub record Sits (w : List ℕ) (low h : ℕ) (t : Tree h) : Type 0 where
   pub some : 1 ≤ low
-  pub stands : Standing least (pageOf w) h t
+  pub stands : Standing least (pageIn w) h t
   pub shaped : Shaped least low h t
-  pub inside : (q : ℕ) → 0 < times q h t → q < pagesIn (length w)
+  pub inside : (q : ℕ) → 0 < times q h t → q < pagesIn today (length w)
 
 -- for each tree that sits there with rising keys, and each gap of it that has this path
 abbrev pub OnPath : List ℕ → List ℕ → List ℕ → ((h : ℕ) → Tree h → ℕ → Type 0) → Type 0

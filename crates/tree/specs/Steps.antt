@@ -8,12 +8,11 @@ use Prim.Native.Nat.{ℕ, zero, suc, _≤_, _<_}
 use lib.Dec.{ltb}
 use lib.ListN.{length, getD}
 use Rattle.model.specs.Tree.{Entry, noEntry, Tree, entries, size, Rising}
-use Rattle.model.specs.Page.{pageOf}
 use Rattle.model.specs.Standing.{numberOf}
 use Rattle.model.specs.Entries.{next, prev, forth, back}
 use Rattle.model.specs.Gap.{slotAt, restAt, child, childAt, seekPages, seekSlots}
 use Rattle.page.specs.Page.{holdsAt}
-use Rattle.lend.specs.Pages.{most, Inside}
+use Rattle.lend.specs.Pages.{most, Inside, pageIn}
 use Rattle.tree.specs.declared.search.Aim.{Aim}
 use Rattle.tree.specs.declared.search.Below.the-variants as below
 use Rattle.tree.specs.declared.steps.Spot.{Spot}
@@ -44,7 +43,7 @@ orElse spot.End other = other
 
 -- entry s of page p
 unfoldable pub hereAfter : List ℕ → ℕ → ℕ → Spot
-hereAfter w p s = cond (holdsAt most (pageOf w p) s 0) (spot.At p s) spot.End
+hereAfter w p s = cond (holdsAt most (pageIn w p) s 0) (spot.At p s) spot.End
 
 -- the one before it
 unfoldable pub hereBefore : List ℕ → ℕ → ℕ → Spot

@@ -5,7 +5,7 @@ ghost use mathlib.Core.Bool.{true};
 ghost use Prim.Native.Nat.{_*_, _≤_};
 ghost use lib.ListN.{length};
 ghost use Rattle.model.specs.Lists.{every};
-ghost use Rattle.model.specs.Layout.{mostPages, firstWord, pagesIn};
+ghost use Rattle.model.specs.Layout.{mostPages, firstWord, pagesIn, today};
 ghost use Rattle.model.specs.Head.{headed};
 ghost use Rattle.model.specs.PoolCalls.{Checks};
 ghost use Rattle.lend.specs.Pages.{most, Inside};
@@ -36,7 +36,7 @@ pub enum Tally {
 // Whether page `p`, met after `pages` others, can be one of the pool's: there are more pages than those, it is taken, has height `h` and holds `low` to
 // nine entries.
 fn stands(pool: &[u64], p: usize, h: usize, low: usize, pages: usize) -> bool
-    requires { ⌜ (firstWord 0 ≤ length (now pool)) × Inside p (now pool) ⌝ }
+    requires { ⌜ (firstWord today 0 ≤ length (now pool)) × Inside p (now pool) ⌝ }
     ensures { λ r. ⌜ r ≡ every (standTests (now (pool .entry)) p h low pages) ⌝ }
 {
     if bits::pages_in(pool) <= pages {
@@ -67,7 +67,7 @@ fn rises(entries: usize, last: u64, key: u64) -> bool
 
 // Whether a value fits the kind of the pool: in a set it is 0.
 fn fits_kind(pool: &[u64], value: u64) -> bool
-    requires { ⌜ firstWord 0 ≤ length (now pool) ⌝ }
+    requires { ⌜ firstWord today 0 ≤ length (now pool) ⌝ }
     ensures { λ r. ⌜ r ≡ valueFits (now (pool .entry)) value ⌝ }
 {
     if pool[KIND] == 1 {
@@ -86,7 +86,7 @@ fn meet(
     entries: usize,
     last: u64,
 ) -> Tally
-    requires { ⌜ (firstWord 0 ≤ length (now pool)) × Inside p (now pool) × (n ≤ most) × (entries ≤ most * mostPages) ⌝ }
+    requires { ⌜ (firstWord today 0 ≤ length (now pool)) × Inside p (now pool) × (n ≤ most) × (entries ≤ most * mostPages today) ⌝ }
     ensures { λ r. ⌜ r ≡ overEntryAt (now (pool .entry)) p i n (tally.Of pages entries last) ⌝ }
 {
     if n <= i {
@@ -112,7 +112,7 @@ fn walk(
     entries: usize,
     last: u64,
 ) -> Tally
-    requires { ⌜ (firstWord 0 ≤ length (now pool)) × Inside p (now pool) × (pages ≤ pagesIn (length (now pool))) × (pagesIn (length (now pool)) ≤ mostPages) × (entries ≤ most * pages) ⌝ }
+    requires { ⌜ (firstWord today 0 ≤ length (now pool)) × Inside p (now pool) × (pages ≤ pagesIn today (length (now pool))) × (pagesIn today (length (now pool)) ≤ mostPages today) × (entries ≤ most * pages) ⌝ }
     ensures { λ r. ⌜ Walks (now (pool .entry)) p h low pages entries last r ⌝ }
 {
     if !stands(pool, p, h, low, pages) {

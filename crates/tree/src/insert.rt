@@ -5,7 +5,7 @@ ghost use mathlib.Core.Bool.{true};
 ghost use Prim.Native.Nat.{_≤_};
 ghost use lib.ListN.{length, getD};
 ghost use Rattle.model.specs.Lists.{All};
-ghost use Rattle.model.specs.Layout.{mostLevels};
+ghost use Rattle.model.specs.Layout.{today, mostLevels};
 ghost use Rattle.model.specs.Head.{levelsWord, headed};
 ghost use Rattle.model.specs.Tree.{entry};
 ghost use Rattle.lend.specs.Pages.{most, Inside};
@@ -117,7 +117,7 @@ fn root_of(pages: &[usize]) -> u64
 
 // The lowest free page becomes the root, one level up.
 fn new_root(pool: &mut [u64], levels: usize, key: u64, value: u64, left: u64, right: u64)
-    requires { ⌜ Sized (now pool) × (levels ≤ mostLevels) ⌝ }
+    requires { ⌜ Sized (now pool) × (levels ≤ mostLevels today) ⌝ }
     ensures { λ _. ⌜ NewRoots levels (entry key value) left right (now (pool .entry)) (now (pool .exit)) ⌝ }
 {
     let Lowest::Page(q) = bits::take_lowest(pool) else {

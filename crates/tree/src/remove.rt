@@ -7,10 +7,10 @@ ghost use Prim.Native.Nat.{_≤_};
 ghost use lib.Dec.{leb};
 ghost use lib.ListN.{length};
 ghost use Rattle.model.specs.Lists.{every};
-ghost use Rattle.model.specs.Layout.{mostLevels, least, firstWord};
+ghost use Rattle.model.specs.Layout.{today, mostLevels, firstWord};
 ghost use Rattle.model.specs.Head.{levelsWord, headed};
-ghost use Rattle.model.specs.Page.{pageOf, countOf};
-ghost use Rattle.lend.specs.Pages.{most, Inside};
+ghost use Rattle.model.specs.Page.{countOf};
+ghost use Rattle.lend.specs.Pages.{least, most, Inside, pageIn};
 ghost use Rattle.tree.specs.Sits.{PathIn};
 ghost use Rattle.tree.specs.Remove.{countBelow, planBy, Plans, MovesLeft, MovesRight, JoinsBelow, Mends, TakesOut, Inherits, RemovesBelow, Beside, CanRemove, Lowers, Removes};
 ghost use Rattle.model.specs.Mend as mends;
@@ -41,7 +41,7 @@ pub enum Mending {
 
 // How many entries child `at` of page `u` has.
 fn count_below(pool: &[u64], u: usize, at: usize) -> usize
-    requires { ⌜ (firstWord 0 ≤ length (now pool)) × Inside u (now pool) ⌝ }
+    requires { ⌜ (firstWord today 0 ≤ length (now pool)) × Inside u (now pool) ⌝ }
     ensures { λ r. ⌜ r ≡ countBelow (now (pool .entry)) u at ⌝ }
 {
     match search::child(pool, u, at) {
@@ -52,8 +52,8 @@ fn count_below(pool: &[u64], u: usize, at: usize) -> usize
 
 // How child `i` of page `u`, left with three, is mended.
 fn repair(pool: &[u64], u: usize, i: usize) -> Mending
-    requires { ⌜ (firstWord 0 ≤ length (now pool)) × Inside u (now pool) × (i ≤ most) ⌝ }
-    ensures { λ r. ⌜ planBy (countBelow (now (pool .entry)) u) r ≡ mends.repair least (countOf (pageOf (now (pool .entry)) u)) (countBelow (now (pool .entry)) u) i ⌝ }
+    requires { ⌜ (firstWord today 0 ≤ length (now pool)) × Inside u (now pool) × (i ≤ most) ⌝ }
+    ensures { λ r. ⌜ planBy (countBelow (now (pool .entry)) u) r ≡ mends.repair least (countOf (pageIn (now (pool .entry)) u)) (countBelow (now (pool .entry)) u) i ⌝ }
 {
     if 0 < i {
         if LEAST < count_below(pool, u, i - 1) {
@@ -73,7 +73,7 @@ fn repair(pool: &[u64], u: usize, i: usize) -> Mending
 
 // Whether child `i` of page `u` is to be mended, and how.
 fn plan(pool: &[u64], u: usize, i: usize) -> Mending
-    requires { ⌜ (firstWord 0 ≤ length (now pool)) × Inside u (now pool) × (i ≤ most) ⌝ }
+    requires { ⌜ (firstWord today 0 ≤ length (now pool)) × Inside u (now pool) × (i ≤ most) ⌝ }
     ensures { λ r. ⌜ Plans (now (pool .entry)) u i r ⌝ }
 {
     if LEAST <= count_below(pool, u, i) {
@@ -84,7 +84,7 @@ fn plan(pool: &[u64], u: usize, i: usize) -> Mending
 
 // Child `j` of page `u` gives its last entry to child `j + 1`, through the page.
 fn move_left(pool: &mut [u64], u: usize, j: usize)
-    requires { ⌜ (firstWord 0 ≤ length (now pool)) × Inside u (now pool) × (j ≤ most) ⌝ }
+    requires { ⌜ (firstWord today 0 ≤ length (now pool)) × Inside u (now pool) × (j ≤ most) ⌝ }
     ensures { λ _. ⌜ MovesLeft u j (now (pool .entry)) (now (pool .exit)) ⌝ }
 {
     let Below::Page(l) = search::child(pool, u, j) else {
@@ -98,7 +98,7 @@ fn move_left(pool: &mut [u64], u: usize, j: usize)
 
 // Child `j + 1` of page `u` gives its first entry to child `j`, through the page.
 fn move_right(pool: &mut [u64], u: usize, j: usize)
-    requires { ⌜ (firstWord 0 ≤ length (now pool)) × Inside u (now pool) × (j ≤ most) ⌝ }
+    requires { ⌜ (firstWord today 0 ≤ length (now pool)) × Inside u (now pool) × (j ≤ most) ⌝ }
     ensures { λ _. ⌜ MovesRight u j (now (pool .entry)) (now (pool .exit)) ⌝ }
 {
     let Below::Page(l) = search::child(pool, u, j) else {
@@ -112,7 +112,7 @@ fn move_right(pool: &mut [u64], u: usize, j: usize)
 
 // Children `j` and `j + 1` of page `u` become the left one, and the right one is freed.
 fn join(pool: &mut [u64], u: usize, j: usize)
-    requires { ⌜ (firstWord 0 ≤ length (now pool)) × Inside u (now pool) × (j ≤ most) ⌝ }
+    requires { ⌜ (firstWord today 0 ≤ length (now pool)) × Inside u (now pool) × (j ≤ most) ⌝ }
     ensures { λ _. ⌜ JoinsBelow u j (now (pool .entry)) (now (pool .exit)) ⌝ }
 {
     let Below::Page(l) = search::child(pool, u, j) else {
@@ -128,7 +128,7 @@ fn join(pool: &mut [u64], u: usize, j: usize)
 
 // Child `i` of page `u` may be left with three.
 fn mend(pool: &mut [u64], u: usize, i: usize)
-    requires { ⌜ (firstWord 0 ≤ length (now pool)) × Inside u (now pool) × (i ≤ most) ⌝ }
+    requires { ⌜ (firstWord today 0 ≤ length (now pool)) × Inside u (now pool) × (i ≤ most) ⌝ }
     ensures { λ _. ⌜ Mends u i (now (pool .entry)) (now (pool .exit)) ⌝ }
 {
     match plan(pool, u, i) {
@@ -178,7 +178,7 @@ fn inherit(pool: &mut [u64], p: usize, s: usize, gone: Gone) -> Gone
 // From the leaf upward: the entry goes there, and each page above takes in what comes up and mends its child on the path.
 // A page that hands nothing up, and whose child has enough, is the last: no page above it changes.
 fn remove_along(pool: &mut [u64], pages: &[usize], slots: &[usize]) -> Gone
-    requires { ⌜ (firstWord 0 ≤ length (now pool)) × (1 ≤ length (now pages)) ⌝ }
+    requires { ⌜ (firstWord today 0 ≤ length (now pool)) × (1 ≤ length (now pages)) ⌝ }
     requires { ⌜ PathIn (now pool) (now pages) (now slots) ⌝ }
     ensures { λ r. ⌜ RemovesBelow (now (pool .entry)) (now (pages .entry)) (now (slots .entry)) (now (pool .exit)) r ⌝ }
 {
@@ -200,7 +200,7 @@ fn remove_along(pool: &mut [u64], pages: &[usize], slots: &[usize]) -> Gone
 
 // Whether child `at` of page `u` can be a neighbour.
 fn neighbour(pool: &[u64], u: usize, at: usize) -> bool
-    requires { ⌜ (firstWord 0 ≤ length (now pool)) × Inside u (now pool) ⌝ }
+    requires { ⌜ (firstWord today 0 ≤ length (now pool)) × Inside u (now pool) ⌝ }
     ensures { λ r. ⌜ r ≡ every (leb least (countBelow (now (pool .entry)) u at) ∷ leb (countBelow (now (pool .entry)) u at) most ∷ []) ⌝ }
 {
     let Below::Page(c) = search::child(pool, u, at) else {
@@ -215,7 +215,7 @@ fn neighbour(pool: &[u64], u: usize, at: usize) -> bool
 
 // Whether the neighbours of child `i` of page `u` are sound.
 fn beside(pool: &[u64], u: usize, i: usize) -> bool
-    requires { ⌜ (firstWord 0 ≤ length (now pool)) × Inside u (now pool) × (i ≤ most) ⌝ }
+    requires { ⌜ (firstWord today 0 ≤ length (now pool)) × Inside u (now pool) × (i ≤ most) ⌝ }
     ensures { λ r. ⌜ Beside (now (pool .entry)) u i r ⌝ }
 {
     if 0 < i {
@@ -231,7 +231,7 @@ fn beside(pool: &[u64], u: usize, i: usize) -> bool
 
 // Whether all that a removal reads is sound: the neighbours of each page that may be left short, from the leaf upward.
 fn can_remove(pool: &[u64], pages: &[usize], slots: &[usize]) -> bool
-    requires { ⌜ firstWord 0 ≤ length (now pool) ⌝ }
+    requires { ⌜ firstWord today 0 ≤ length (now pool) ⌝ }
     requires { ⌜ PathIn (now pool) (now pages) (now slots) ⌝ }
     ensures { λ r. ⌜ CanRemove (now (pool .entry)) (now (pages .entry)) (now (slots .entry)) r ⌝ }
 {
@@ -250,7 +250,7 @@ fn can_remove(pool: &[u64], pages: &[usize], slots: &[usize]) -> bool
 
 // A root left without entries is freed.
 fn lower_root(pool: &mut [u64], root: usize, levels: usize)
-    requires { ⌜ (firstWord 0 ≤ length (now pool)) × Inside root (now pool) × (levels ≤ mostLevels) × (1 ≤ levels) ⌝ }
+    requires { ⌜ (firstWord today 0 ≤ length (now pool)) × Inside root (now pool) × (levels ≤ mostLevels today) × (1 ≤ levels) ⌝ }
     ensures { λ _. ⌜ Lowers root levels (now (pool .entry)) (now (pool .exit)) ⌝ }
 {
     if pages::count(pool, root) != 0 {

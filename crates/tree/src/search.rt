@@ -4,7 +4,7 @@ ghost use mathlib.Core.Path.{_≡_};
 ghost use mathlib.Core.Bool.{true, false};
 ghost use Prim.Native.Nat.{_+_, _≤_, _<_};
 ghost use lib.ListN.{length};
-ghost use Rattle.model.specs.Layout.{mostLevels, firstWord};
+ghost use Rattle.model.specs.Layout.{today, mostLevels, firstWord};
 ghost use Rattle.model.specs.Head.{levelsWord, headed};
 ghost use Rattle.page.specs.Runs.{upTo};
 ghost use Rattle.lend.specs.Pages.{Inside};
@@ -40,7 +40,7 @@ pub enum Aim {
 
 // The page of the child at a place.
 pub fn child(pool: &[u64], p: usize, at: usize) -> Below
-    requires { ⌜ (firstWord 0 ≤ length (now pool)) × Inside p (now pool) ⌝ }
+    requires { ⌜ (firstWord today 0 ≤ length (now pool)) × Inside p (now pool) ⌝ }
     ensures { λ r. ⌜ r ≡ belowOf (now (pool .entry)) p at ⌝ }
 {
     if MOST < at {
@@ -66,7 +66,7 @@ fn look(pool: &[u64], p: usize, h: usize, key: u64) -> Place
 
 // The search from page `p`, of height `h`, down; `above` pages were read before.
 pub fn get_below(pool: &[u64], p: usize, h: usize, key: u64, above: usize) -> Got
-    requires { ⌜ (firstWord 0 ≤ length (now pool)) × Inside p (now pool) × (above + h < mostLevels) ⌝ }
+    requires { ⌜ (firstWord today 0 ≤ length (now pool)) × Inside p (now pool) × (above + h < mostLevels today) ⌝ }
     ensures { λ r. ⌜ GetsBelow (now (pool .entry)) p h key above r ⌝ }
 {
     let mut at = p;
@@ -170,7 +170,7 @@ pub fn seek_below(
     pages: &mut [usize],
     slots: &mut [usize],
 ) -> bool
-    requires { ⌜ (firstWord 0 ≤ length (now pool)) × Inside p (now pool) × (1 ≤ length (now pages)) × (length (now pages) ≡ length (now slots)) ⌝ }
+    requires { ⌜ (firstWord today 0 ≤ length (now pool)) × Inside p (now pool) × (1 ≤ length (now pages)) × (length (now pages) ≡ length (now slots)) ⌝ }
     ensures { λ r. ⌜ SeeksBelow (now (pool .entry)) p aim (now (pages .entry)) (now (slots .entry)) (now (pages .exit)) (now (slots .exit)) r ⌝ }
 {
     let last = pages.len() - 1;

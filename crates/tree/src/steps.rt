@@ -3,7 +3,7 @@
 ghost use mathlib.Core.Path.{_≡_};
 ghost use Prim.Native.Nat.{suc, _≤_};
 ghost use lib.ListN.{length};
-ghost use Rattle.model.specs.Layout.{firstWord};
+ghost use Rattle.model.specs.Layout.{today, firstWord};
 ghost use Rattle.lend.specs.Pages.{Inside};
 ghost use Rattle.tree.specs.Sits.{PathIn};
 ghost use Rattle.tree.specs.Steps.{SpotAfter, SpotBefore, Turns, Overs, Forth, Back};
@@ -72,7 +72,7 @@ fn turn(
     pages: &mut [usize],
     slots: &mut [usize],
 ) -> bool
-    requires { ⌜ (firstWord 0 ≤ length (now pool)) × Inside p (now pool) × (length (now pages) ≡ length (now slots)) ⌝ }
+    requires { ⌜ (firstWord today 0 ≤ length (now pool)) × Inside p (now pool) × (length (now pages) ≡ length (now slots)) ⌝ }
     ensures { λ r. ⌜ Turns (now (pool .entry)) p at aim (now (pages .entry)) (now (slots .entry)) (now (pages .exit)) (now (slots .exit)) r ⌝ }
 {
     if pages.len() == 0 {
@@ -93,7 +93,7 @@ fn over(
     pages: &mut [usize],
     slots: &mut [usize],
 ) -> Step
-    requires { ⌜ (firstWord 0 ≤ length (now pool)) × (1 ≤ length (now pages)) × (slot ≤ suc s) ⌝ }
+    requires { ⌜ (firstWord today 0 ≤ length (now pool)) × (1 ≤ length (now pages)) × (slot ≤ suc s) ⌝ }
     requires { ⌜ PathIn (now pool) (now pages) (now slots) ⌝ }
     ensures { λ r. ⌜ Overs (now (pool .entry)) s slot aim (now (pages .entry)) (now (slots .entry)) (now (pages .exit)) (now (slots .exit)) r ⌝ }
 {
@@ -111,7 +111,7 @@ fn over(
 
 // The entry after the path's gap, and the path of the gap after it. From the leaf upward: the first page with an entry at its slot has it.
 pub fn next(pool: &[u64], pages: &mut [usize], slots: &mut [usize]) -> Step
-    requires { ⌜ firstWord 0 ≤ length (now pool) ⌝ }
+    requires { ⌜ firstWord today 0 ≤ length (now pool) ⌝ }
     requires { ⌜ PathIn (now pool) (now pages) (now slots) ⌝ }
     ensures { λ r. ⌜ Forth (now (pool .entry)) (now (pages .entry)) (now (slots .entry)) (now (pages .exit)) (now (slots .exit)) r ⌝ }
 {
@@ -134,7 +134,7 @@ pub fn next(pool: &[u64], pages: &mut [usize], slots: &mut [usize]) -> Step
 
 // The entry before the path's gap, and the path of the gap before it. From the leaf upward: the first page with an entry before its slot has it.
 pub fn prev(pool: &[u64], pages: &mut [usize], slots: &mut [usize]) -> Step
-    requires { ⌜ firstWord 0 ≤ length (now pool) ⌝ }
+    requires { ⌜ firstWord today 0 ≤ length (now pool) ⌝ }
     requires { ⌜ PathIn (now pool) (now pages) (now slots) ⌝ }
     ensures { λ r. ⌜ Back (now (pool .entry)) (now (pages .entry)) (now (slots .entry)) (now (pages .exit)) (now (slots .exit)) r ⌝ }
 {

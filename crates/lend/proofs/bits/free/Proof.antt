@@ -1,6 +1,6 @@
 -- `bits::free` meets its contract: the map is lent and given back with the page freed. Assumes nothing.
 use borrow.Author.Needs.{needs}
-use Rattle.model.specs.PageMap.{mapOf}
+use Rattle.model.specs.PageMap.{mapAt}
 use Rattle.lend.proofs.Touching.{map-back}
 use Rattle.lend.proofs.bits.free.Statement.{statement}
 use Rattle.lend.proofs.bits.free.Tie as tie
@@ -21,7 +21,7 @@ same-length : tie.Need-same-length
 same-length c = search needs
 
 returns : tie.Need-returns
-unfolding mapOf
+unfolding mapAt
 returns c =
     let s = c .before .before .before .before .before in
     let m = c .before .before .free in

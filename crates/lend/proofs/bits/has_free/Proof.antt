@@ -1,6 +1,6 @@
 -- `bits::has_free` meets its contract: what `pagemap::has_free` says of the words lent. Assumes nothing.
 use borrow.Author.Needs.{needs}
-use Rattle.model.specs.PageMap.{mapOf}
+use Rattle.model.specs.PageMap.{mapAt}
 use Rattle.lend.proofs.bits.has_free.Statement.{statement}
 use Rattle.lend.proofs.bits.has_free.Tie as tie
 
@@ -20,7 +20,7 @@ has-free-requires : tie.Need-has-free-requires
 has-free-requires c κs = search needs
 
 returns : tie.Need-returns
-unfolding mapOf
+unfolding mapAt
 returns c = rw (c .before .before .pages-in .ensures) at (c .has-free .ensures)
 
 pub has-free-spec : {M : Type 1} → statement M

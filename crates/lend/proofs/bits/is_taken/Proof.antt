@@ -1,6 +1,6 @@
 -- `bits::is_taken` meets its contract: what `pagemap::is_taken` says of the words lent. Assumes nothing.
 use borrow.Author.Needs.{needs}
-use Rattle.model.specs.PageMap.{mapOf}
+use Rattle.model.specs.PageMap.{mapAt}
 use Rattle.lend.proofs.bits.is_taken.Statement.{statement}
 use Rattle.lend.proofs.bits.is_taken.Tie as tie
 
@@ -17,7 +17,7 @@ is-taken-requires : tie.Need-is-taken-requires
 is-taken-requires c κs = search needs
 
 returns : tie.Need-returns
-unfolding mapOf
+unfolding mapAt
 returns c = c .is-taken .ensures
 
 pub is-taken-spec : {M : Type 1} → statement M

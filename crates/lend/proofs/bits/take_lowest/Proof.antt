@@ -1,6 +1,6 @@
 -- `bits::take_lowest` meets its contract: the map is lent and given back with the lowest free page taken. Assumes nothing.
 use borrow.Author.Needs.{needs}
-use Rattle.model.specs.PageMap.{mapOf}
+use Rattle.model.specs.PageMap.{mapAt}
 use Rattle.lend.proofs.Touching.{map-back}
 use Rattle.lend.proofs.bits.take_lowest.Statement.{statement}
 use Rattle.lend.proofs.bits.take_lowest.Tie as tie
@@ -24,7 +24,7 @@ same-length : tie.Need-same-length
 same-length c = search needs
 
 returns : tie.Need-returns
-unfolding mapOf
+unfolding mapAt
 returns c =
     let m = c .before .before .take-lowest in
     let s = c .before .before .before .before .before .before .before in (

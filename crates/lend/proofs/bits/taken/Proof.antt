@@ -1,6 +1,6 @@
 -- `bits::taken` meets its contract: what `pagemap::taken` says of the words lent. Assumes nothing.
 use borrow.Author.Needs.{needs}
-use Rattle.model.specs.PageMap.{mapOf}
+use Rattle.model.specs.PageMap.{mapAt}
 use Rattle.lend.proofs.bits.taken.Statement.{statement}
 use Rattle.lend.proofs.bits.taken.Tie as tie
 
@@ -17,7 +17,7 @@ taken-requires : tie.Need-taken-requires
 taken-requires c κs = search needs
 
 returns : tie.Need-returns
-unfolding mapOf
+unfolding mapAt
 returns c = c .taken .ensures
 
 pub taken-spec : {M : Type 1} → statement M

@@ -7,9 +7,9 @@ use native.Mathlib.Omega.{arith}
 use borrow.Author.Needs.{needs}
 use borrow.Author.Tests.{not-true, not-false, le-leb, lt-leb, le-ltb}
 use Rattle.model.specs.Lists.{every}
-use Rattle.model.specs.Page.{pageOf, countOf}
+use Rattle.model.specs.Page.{countOf}
 use Rattle.page.specs.Page.{holdsAt}
-use Rattle.lend.specs.Pages.{most, areApart, canJoin}
+use Rattle.lend.specs.Pages.{most, areApart, canJoin, pageIn}
 use Rattle.lend.proofs.Several.{fits-test}
 use Rattle.lend.proofs.pages.can_join.Statement.{statement}
 use Rattle.lend.proofs.pages.can_join.Tie as tie
@@ -41,7 +41,7 @@ returns-2 c =
 -- what the first two tests leave
 known : (c : tie.Else2) →
     let a = c .before .before .before .before .before .before .args in
-    (every (areApart (a .u) (a .l) (a .r)) ≡ true) × (holdsAt most (pageOf (a .pool .now) (a .u)) (a .i) (suc (a .i)) ≡ true)
+    (every (areApart (a .u) (a .l) (a .r)) ≡ true) × (holdsAt most (pageIn (a .pool .now) (a .u)) (a .i) (suc (a .i)) ≡ true)
 known c =
     let h = c .before in
     let p = h .before in
@@ -60,7 +60,7 @@ returns-3 c =
     let s = c .before .before .before in
     let k = known s in
     let a = s .before .before .before .before .before .before .args in
-    let n = countOf (pageOf (a .pool .now) (a .l)) in
+    let n = countOf (pageIn (a .pool .now) (a .l)) in
     rw (k .0, k .1, lt-leb 1 n (omega arith))
 
 returns-4 : tie.Need-returns-4
@@ -69,8 +69,8 @@ returns-4 c =
     let s = c .before .before .before .before in
     let k = known s in
     let a = s .before .before .before .before .before .before .args in
-    let n = countOf (pageOf (a .pool .now) (a .l)) in
-    let m = countOf (pageOf (a .pool .now) (a .r)) in
+    let n = countOf (pageIn (a .pool .now) (a .l)) in
+    let m = countOf (pageIn (a .pool .now) (a .r)) in
     rw (k .0, k .1, le-leb 1 n (omega arith), lt-leb 1 m (omega arith))
 
 returns-5 : tie.Need-returns-5
@@ -79,8 +79,8 @@ returns-5 c =
     let s = c .before .before .before .before .before in
     let k = known s in
     let a = s .before .before .before .before .before .before .args in
-    let n = countOf (pageOf (a .pool .now) (a .l)) in
-    let m = countOf (pageOf (a .pool .now) (a .r)) in
+    let n = countOf (pageIn (a .pool .now) (a .l)) in
+    let m = countOf (pageIn (a .pool .now) (a .r)) in
     rw (k .0, k .1, le-leb 1 n (omega arith), le-leb 1 m (omega arith), le-ltb (n + m) most (omega arith))
 
 sub-result : tie.Need-sub-result
@@ -92,8 +92,8 @@ returns-6 c =
     let s = c .before .before .before .before .before in
     let k = known s in
     let a = s .before .before .before .before .before .before .args in
-    let n = countOf (pageOf (a .pool .now) (a .l)) in
-    let m = countOf (pageOf (a .pool .now) (a .r)) in
+    let n = countOf (pageIn (a .pool .now) (a .l)) in
+    let m = countOf (pageIn (a .pool .now) (a .r)) in
     rw (k .0, k .1, le-leb 1 n (omega arith), le-leb 1 m (omega arith), c .before .before .before .count2 .ensures, c .before .before .before .before .count .ensures)
     (fits-test n m (omega arith))
 

@@ -4,9 +4,8 @@ use mathlib.Core.Bool.{true}
 use borrow.Author.Needs.{needs}
 use borrow.Author.Tests.{not-true, not-false}
 use Rattle.model.specs.Lists.{every}
-use Rattle.model.specs.Page.{pageOf}
 use Rattle.page.specs.Page.{holdsAt}
-use Rattle.lend.specs.Pages.{most, areApart, canPass}
+use Rattle.lend.specs.Pages.{most, areApart, canPass, pageIn}
 use Rattle.page.proofs.Pages.{last-test}
 use Rattle.lend.proofs.pages.can_pass.Statement.{statement}
 use Rattle.lend.proofs.pages.can_pass.Tie as tie
@@ -38,7 +37,7 @@ returns-2 c =
 
 above : (c : tie.Else2) →
     let a = c .before .before .before .before .before .before .args in
-    holdsAt most (pageOf (a .pool .now) (a .u)) (a .i) 0 ≡ true
+    holdsAt most (pageIn (a .pool .now) (a .u)) (a .i) 0 ≡ true
 above c = sym (rw (c .before .before .page-at .ensures .0) at (c .before .holds .ensures)) ∙ not-false _ (c .if2 .left)
 
 page-at-requires-2 : tie.Need-page-at-requires-2

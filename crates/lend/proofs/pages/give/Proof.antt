@@ -5,9 +5,8 @@ use Prim.Native.Nat.{_-_, _≤_}
 use native.Mathlib.Omega.{arith}
 use borrow.Author.Needs.{needs}
 use Rattle.model.specs.Tree.{entry}
-use Rattle.model.specs.Page.{pageOf}
 use Rattle.page.specs.Page.{fullAt}
-use Rattle.lend.specs.Pages.{most, Inside}
+use Rattle.lend.specs.Pages.{most, Inside, pageIn}
 use Rattle.lend.proofs.Copied.{Giving, giving-more, Given, gives}
 use Rattle.lend.proofs.pages.give.Statement.{statement}
 use Rattle.lend.proofs.pages.give.Tie as tie
@@ -52,7 +51,7 @@ given c =
 ready : (c : tie.At-loop Inv-loop μ-loop) →
     let a = c .before .before .before .before .before .before .before .before .before .before .before .before .before .before .args in
     let w = c .loop .pool in
-    Inside (a .p) w × Inside (a .q) w × (fullAt most (pageOf w (a .p)) (a .slot) ≡ true)
+    Inside (a .p) w × Inside (a .q) w × (fullAt most (pageIn w (a .p)) (a .slot) ≡ true)
 ready c =
     let s = c .before .before .before .before .before .before .before .before .before .before .before .before .before .before in
     let g = given (c .before) in

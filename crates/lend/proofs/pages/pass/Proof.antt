@@ -5,8 +5,7 @@ use Prim.Native.Nat.{_≤_, _<_}
 use native.Mathlib.Omega.{arith}
 use borrow.Author.Needs.{needs}
 use borrow.Author.Tests.{not-true, not-false}
-use Rattle.model.specs.Page.{pageOf}
-use Rattle.lend.specs.Pages.{most, canPass}
+use Rattle.lend.specs.Pages.{most, canPass, pageIn}
 use Rattle.page.proofs.Pages.{holds-facts}
 use Rattle.lend.proofs.Several.{pass-facts, pass-none, pass-done}
 use Rattle.lend.proofs.pages.pass.Statement.{statement}
@@ -39,7 +38,7 @@ known : (c : tie.Else1) →
 known c =
     let a = c .before .before .before .before .args in
     let f = pass-facts (a .pool .now) (a .u) (a .i) (a .from) (a .fs) (a .fa) (a .to) (a .ts) (a .ta) (can c) in
-    omega (arith, holds-facts most (pageOf (a .pool .now) (a .u)) (a .i) 0 (f .1), holds-facts most (pageOf (a .pool .now) (a .from)) (a .fs) (a .fa) (f .2))
+    omega (arith, holds-facts most (pageIn (a .pool .now) (a .u)) (a .i) 0 (f .1), holds-facts most (pageIn (a .pool .now) (a .from)) (a .fs) (a .fa) (f .2))
 
 entry-at-requires : tie.Need-entry-at-requires
 entry-at-requires c κs = let k = known (c .before) in search needs

@@ -5,9 +5,8 @@ use native.Mathlib.Omega.{arith}
 use borrow.Author.Needs.{needs}
 use borrow.Author.Tests.{not-true, not-false}
 use Rattle.model.specs.Tree.{entry}
-use Rattle.model.specs.Page.{pageOf}
 use Rattle.page.specs.Page.{fullAt}
-use Rattle.lend.specs.Pages.{most}
+use Rattle.lend.specs.Pages.{most, pageIn}
 use Rattle.lend.proofs.Several.{split-same, split-room, split-none, split-done}
 use Rattle.lend.proofs.pages.split.Statement.{statement}
 use Rattle.lend.proofs.pages.split.Tie as tie
@@ -37,7 +36,7 @@ returns-2 c =
 
 full : (c : tie.Else2) →
     let a = c .before .before .before .before .before .before .args in
-    fullAt most (pageOf (a .pool .now) (a .p)) (a .slot) ≡ true
+    fullAt most (pageIn (a .pool .now) (a .p)) (a .slot) ≡ true
 full c = sym (rw (c .before .before .page-at .ensures .0) at (c .before .is-full .ensures)) ∙ not-false _ (c .if2 .left)
 
 give-requires : tie.Need-give-requires

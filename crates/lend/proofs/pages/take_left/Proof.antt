@@ -3,10 +3,11 @@ use mathlib.Core.Path.{refl}
 use Prim.Native.Nat.{_-_}
 use native.Mathlib.Omega.{arith}
 use borrow.Author.Needs.{needs}
-use Rattle.model.specs.Page.{pageOf, countOf}
+use Rattle.model.specs.Page.{countOf}
 use Rattle.lend.proofs.Several.{pass-empty, move-none, give-moves}
 use Rattle.lend.proofs.pages.take_left.Statement.{statement}
 use Rattle.lend.proofs.pages.take_left.Tie as tie
+use Rattle.lend.specs.Pages.{pageIn}
 
 count-requires : tie.Need-count-requires
 count-requires c κs = search needs
@@ -33,7 +34,7 @@ returns-2 c =
     let p = c .before .before in
     let k = p .before .before .before in
     let a = k .before .before .before .args in
-    let n = countOf (pageOf (a .pool .now) (a .l)) in
+    let n = countOf (pageIn (a .pool .now) (a .l)) in
     give-moves (a .pool .now) (a .u) (a .i) (a .l) (a .r) (n - 1) n (omega arith) (omega arith) (rw (k .count .ensures) at (p .pass .ensures))
 
 pub take-left-spec : {M : Type 1} → statement M

@@ -2,8 +2,7 @@
 use native.Mathlib.Numerals.{add-one}
 use native.Mathlib.Omega.{arith}
 use borrow.Author.Needs.{needs}
-use Rattle.model.specs.Page.{pageOf}
-use Rattle.lend.specs.Pages.{most}
+use Rattle.lend.specs.Pages.{most, pageIn}
 use Rattle.page.proofs.Pages.{full-facts}
 use Rattle.lend.proofs.Lent.{page-long}
 use Rattle.lend.proofs.pages.wider_child.Statement.{statement}
@@ -15,13 +14,13 @@ page-at-requires c κs = search needs
 add-wider-child : tie.Need-add-wider-child
 add-wider-child c =
     let a = c .before .before .args in
-    let f = full-facts most (pageOf (a .pool .now) (a .p)) (a .slot) (c .before .before .pre .1) in
+    let f = full-facts most (pageIn (a .pool .now) (a .p)) (a .slot) (c .before .before .pre .1) in
     search needs
 
 wider-child-requires : tie.Need-wider-child-requires
 wider-child-requires c κs =
     let a = c .before .before .args in
-    let f = full-facts most (pageOf (a .pool .now) (a .p)) (a .slot) (c .before .before .pre .1) in
+    let f = full-facts most (pageIn (a .pool .now) (a .p)) (a .slot) (c .before .before .pre .1) in
     rw (c .page-at .ensures .0) (omega (arith, page-long (a .pool .now) (a .p) (c .before .before .pre .0)))
 
 returns : tie.Need-returns

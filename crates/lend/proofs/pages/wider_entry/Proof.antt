@@ -1,8 +1,7 @@
 -- `pages::wider_entry` meets its contract: what `page::wider_entry` says of the page, said of the pool. Assumes nothing.
 use native.Mathlib.Omega.{arith}
 use borrow.Author.Needs.{needs}
-use Rattle.model.specs.Page.{pageOf}
-use Rattle.lend.specs.Pages.{most}
+use Rattle.lend.specs.Pages.{most, pageIn}
 use Rattle.page.proofs.Pages.{full-facts}
 use Rattle.lend.proofs.Lent.{page-long}
 use Rattle.lend.proofs.pages.wider_entry.Statement.{statement}
@@ -14,7 +13,7 @@ page-at-requires c κs = search needs
 wider-entry-requires : tie.Need-wider-entry-requires
 wider-entry-requires c κs =
     let a = c .before .before .args in
-    let f = full-facts most (pageOf (a .pool .now) (a .p)) (a .slot) (c .before .before .pre .1) in
+    let f = full-facts most (pageIn (a .pool .now) (a .p)) (a .slot) (c .before .before .pre .1) in
     rw (c .page-at .ensures .0) (omega (arith, page-long (a .pool .now) (a .p) (c .before .before .pre .0)))
 
 returns : tie.Need-returns

@@ -4,11 +4,11 @@ use mathlib.Core.Bool.{true, false}
 use native.Mathlib.Omega.{arith}
 use borrow.Author.Needs.{needs}
 use borrow.Author.Tests.{not-true, not-false, eq-eqb, ne-eqb}
-use Rattle.model.specs.Head.{headed, kindWord}
+use Rattle.model.specs.Head.{headed, kindWord, geometryOf}
 use Rattle.model.specs.PoolCalls.{clearTests}
+use Rattle.model.proofs.Lawful.{geometry-lawful}
 use Rattle.model.proofs.Head.{head-facts}
-use Rattle.lend.proofs.Fitting.{head-long}
-use Rattle.lend.proofs.Fitting.{headed-allowed}
+use Rattle.lend.proofs.Fitting.{head-long, headed-allowed}
 use Rattle.map.proofs.Making.{makes-refused, makes-done}
 use Rattle.map.proofs.pool.clear.Statement.{statement}
 use Rattle.map.proofs.pool.clear.Tie as tie
@@ -23,7 +23,7 @@ returns : tie.Need-returns
 returns c =
     let w = c .before .before .before .before .args .pool .now in
     let no-head : headed w ≡ false = sym (c .before .fits2 .ensures) ∙ not-true _ (c .if1 .taken) in
-    makes-refused (clearTests w) (kindWord w) w 1 (rw no-head) (omega arith)
+    makes-refused (clearTests w) (geometryOf w) (kindWord w) w 1 (rw no-head) (omega arith)
 
 -- past the head
 fitting : (c : tie.Else1) → headed (c .before .before .before .before .args .pool .now) ≡ true
@@ -38,7 +38,7 @@ same-length-2 c = search needs
 returns-2 : tie.Need-returns-2
 returns-2 c =
     let w = c .before .before .before .before .before .before .args .pool .now in
-    makes-refused (clearTests w) (kindWord w) w 4 (rw (fitting (c .before .before), eq-eqb _ _ (c .if2 .taken))) (omega arith)
+    makes-refused (clearTests w) (geometryOf w) (kindWord w) w 4 (rw (fitting (c .before .before), eq-eqb _ _ (c .if2 .taken))) (omega arith)
 
 slice-read-kind : tie.Need-slice-read-kind
 slice-read-kind c = let long = head-long _ (fitting (c .before .before .before)) in omega arith
@@ -50,11 +50,13 @@ same-length-3 : tie.Need-same-length-3
 same-length-3 c = search needs
 
 returns-3 : tie.Need-returns-3
+unfolding geometryOf
 returns-3 c =
     let past = c .before .before .before .before .before in
     let w = past .before .before .before .before .before .before .args .pool .now in
     let e = fitting (past .before .before) in
-    makes-done (clearTests w) (kindWord w) w _ (rw (e, ne-eqb _ _ (past .if2 .left))) (headed-allowed w e) (head-facts w e .kind) (c .before .before .lay .ensures)
+    makes-done (clearTests w) (geometryOf w) (kindWord w) w (geometry-lawful w) _ (rw (e, ne-eqb _ _ (past .if2 .left))) (headed-allowed w e) (head-facts w e .kind)
+    (c .before .before .lay .ensures)
 
 pub clear-spec : {M : Type 1} → statement M
 clear-spec =

@@ -7,8 +7,8 @@ use native.Mathlib.Omega.{arith}
 use lib.ListN.{length}
 use borrow.Author.Needs.{needs}
 use borrow.Author.Tests.{not-true, not-false, eq-eqb, ne-eqb}
-use Rattle.model.specs.Layout.{firstWord, allowed}
-use Rattle.model.specs.Head.{headed}
+use Rattle.model.specs.Layout.{firstWord, allowed, today}
+use Rattle.model.specs.Head.{headed, geometryOf}
 use Rattle.model.specs.Refusal.{refusal}
 use Rattle.model.specs.PoolCalls.{copyTests}
 use Rattle.lend.proofs.Fitting.{head-long}
@@ -33,16 +33,18 @@ allowed-requires : tie.Need-allowed-requires
 allowed-requires c κs = search needs
 
 returns-2 : tie.Need-returns-2
+unfolding geometryOf
 returns-2 c =
     let a = c .before .before .before .before .before .before .args in
-    let no-length : allowed (length (a .destination .now)) ≡ false = sym (c .before .allowed .ensures) ∙ not-true _ (c .if2 .taken) in
+    let no-length : allowed today (length (a .destination .now)) ≡ false = sym (c .before .allowed .ensures) ∙ not-true _ (c .if2 .taken) in
     copies-refused (a .source .now) (a .destination .now) 1 (rw (fitting (c .before .before), no-length)) (omega arith)
 
 -- past the destination's length
-sized : (c : tie.Else2) → allowed (length (c .before .before .before .before .before .before .args .destination .now)) ≡ true
+sized : (c : tie.Else2) → allowed today (length (c .before .before .before .before .before .before .args .destination .now)) ≡ true
 sized c = sym (c .before .allowed .ensures) ∙ not-false _ (c .if2 .left)
 
 returns-3 : tie.Need-returns-3
+unfolding geometryOf
 returns-3 c =
     let past = c .before in
     let a = past .before .before .before .before .before .before .args in
@@ -58,6 +60,7 @@ same-length : tie.Need-same-length
 same-length c = search needs
 
 returns-4 : tie.Need-returns-4
+unfolding geometryOf
 returns-4 c =
     let fits = c .before .before .before in
     let past = fits .before .before .before in
@@ -69,6 +72,7 @@ returns-4 c =
 -- past all tests
 passed : (c : tie.Joined4)
     → let a = c .before .before .before .before .before .before .before .before .before .before .args in refusal (copyTests (a .source .now) (a .destination .now)) ≡ 0
+unfolding geometryOf
 passed c =
     let past = c .before .before .before .before in
     let a = past .before .before .before .before .before .before .args in
@@ -78,7 +82,7 @@ passed c =
     (λ g. let no-head : headed (a .destination .now) ≡ false = sym (c .before .fits3 .ensures) ∙ g .left in rw no-head)
     (c .if4 .came))
 
-room : (c : tie.Joined4) → firstWord 1 ≤ length (c .before .before .before .before .before .before .before .before .before .before .args .source .now)
+room : (c : tie.Joined4) → firstWord today 1 ≤ length (c .before .before .before .before .before .before .before .before .before .before .args .source .now)
 room c = head-long _ (fitting (c .before .before .before .before .before .before))
 
 copy-words-requires : tie.Need-copy-words-requires

@@ -3,15 +3,15 @@ use Prim.Native.Nat.{_≤_}
 use native.Mathlib.Omega.{arith}
 use lib.ListN.{length, length-set}
 use borrow.Author.Needs.{needs}
-use Rattle.model.specs.Layout.{firstWord}
-use Rattle.lend.proofs.Fitting.{allowed-facts}
+use Rattle.model.specs.Layout.{today, firstWord}
+use Rattle.model.proofs.Lawful.{allowed-facts}
 use Rattle.map.proofs.Making.{lay-written}
 use Rattle.map.proofs.pool.lay.Statement.{statement}
 use Rattle.map.proofs.pool.lay.Tie as tie
 
 -- there is room for the head and the map
-long : (c : tie.Start) → firstWord 0 ≤ length (c .args .pool .now)
-long c = omega (arith, allowed-facts _ (c .pre .0))
+long : (c : tie.Start) → firstWord today 0 ≤ length (c .args .pool .now)
+long c = omega (arith, allowed-facts today _ (c .pre .0))
 
 pages-in-requires : tie.Need-pages-in-requires
 pages-in-requires c κs = long (c .before .before)

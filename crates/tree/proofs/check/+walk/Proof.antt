@@ -10,9 +10,8 @@ use borrow.Author.Tests.{not-true, not-false, leb-true}
 use borrow.Fn.Kinds.{In}
 use borrow.Fn.PlainCycle.{Measures, is, falls, and}
 use Rattle.model.specs.Lists.{every}
-use Rattle.model.specs.Layout.{least}
-use Rattle.model.specs.Page.{pageOf, countOf}
-use Rattle.lend.specs.Pages.{most}
+use Rattle.model.specs.Page.{countOf}
+use Rattle.lend.specs.Pages.{least, most, pageIn}
 use Rattle.tree.specs.declared.check.Tally.{Tally}
 use Rattle.tree.specs.declared.search.Below.the-variants as below
 use Rattle.tree.specs.Search.{belowOf}
@@ -83,7 +82,7 @@ module _ (t : ℕ) where
   many : (c : Counted) → c .count .result ≤ most
   many c =
       let a = start c .args in
-      let l = leb-true (countOf (pageOf (a .pool .now) (a .p))) most (every-true (standTests (a .pool .now) (a .p) (a .h) (a .low) (a .pages)) (tested c) .1 .1 .1 .1 .0) in
+      let l = leb-true (countOf (pageIn (a .pool .now) (a .p))) most (every-true (standTests (a .pool .now) (a .p) (a .h) (a .low) (a .pages)) (tested c) .1 .1 .1 .1 .0) in
       let e = c .count .ensures in
       omega arith
 

@@ -5,7 +5,7 @@ use Prim.Native.Nat.{pred, _-_}
 use native.Mathlib.Omega.{arith}
 use borrow.Author.Needs.{needs}
 use borrow.Author.Tests.{not-true, not-false}
-use Rattle.model.specs.Head.{rootWord, levelsWord, headed}
+use Rattle.model.specs.Head.{rootWord, levelsWord, headed, geometryOf}
 use Rattle.tree.specs.declared.check.Tally.{Tally}
 use Rattle.tree.specs.declared.check.Tally.the-variants as tally
 use Rattle.tree.specs.Check.{overTree, Walks}
@@ -67,6 +67,7 @@ sub-walk-2 : tie.Need-sub-walk-2
 sub-walk-2 c = search needs
 
 walk-requires : tie.Need-walk-requires
+unfolding geometryOf
 walk-requires c κs =
     let past = c .before .before .before in
     let w = past .before .before .before .args .pool .now in

@@ -8,10 +8,10 @@ use lib.ListN.{length}
 use borrow.Author.Needs.{needs}
 use borrow.Author.Tests.{not-true, not-false, lt-ltb, le-ltb, le-leb, lt-leb, eq-eqb, ne-eqb}
 use Rattle.model.specs.Lists.{every}
-use Rattle.model.specs.Layout.{pagesIn}
-use Rattle.model.specs.PageMap.{mapOf, bitAt}
-use Rattle.model.specs.Page.{pageOf, countOf, heightOf}
-use Rattle.lend.specs.Pages.{most}
+use Rattle.model.specs.Layout.{pagesIn, today}
+use Rattle.model.specs.PageMap.{bitAt}
+use Rattle.model.specs.Page.{countOf, heightOf}
+use Rattle.lend.specs.Pages.{most, pageIn, mapIn}
 use Rattle.tree.proofs.check.stands.Statement.{statement}
 use Rattle.tree.proofs.check.stands.Tie as tie
 
@@ -23,15 +23,15 @@ returns c =
     let a = c .before .before .before .args in
     let e = c .before .pages-in .ensures in
     let l = c .if1 .taken in
-    rw (le-ltb (a .pages) (pagesIn (length (a .pool .now))) (omega arith))
+    rw (le-ltb (a .pages) (pagesIn today (length (a .pool .now))) (omega arith))
 
 -- what each test that was passed says
-more : (c : tie.Else1) → let a = c .before .before .before .args in ltb (a .pages) (pagesIn (length (a .pool .now))) ≡ true
+more : (c : tie.Else1) → let a = c .before .before .before .args in ltb (a .pages) (pagesIn today (length (a .pool .now))) ≡ true
 more c =
     let a = c .before .before .before .args in
     let e = c .before .pages-in .ensures in
     let l = c .if1 .left in
-    lt-ltb (a .pages) (pagesIn (length (a .pool .now))) (omega arith)
+    lt-ltb (a .pages) (pagesIn today (length (a .pool .now))) (omega arith)
 
 is-taken-requires : tie.Need-is-taken-requires
 is-taken-requires c κs = search needs
@@ -39,7 +39,7 @@ is-taken-requires c κs = search needs
 returns-2 : tie.Need-returns-2
 returns-2 c = rw (more (c .before .before), sym (c .before .is-taken .ensures) ∙ not-true _ (c .if2 .taken))
 
-taken : (c : tie.Else2) → let a = c .before .before .before .before .before .args in eqb (bitAt (mapOf (a .pool .now)) (a .p)) 1 ≡ true
+taken : (c : tie.Else2) → let a = c .before .before .before .before .before .args in eqb (bitAt (mapIn (a .pool .now)) (a .p)) 1 ≡ true
 taken c = sym (c .before .is-taken .ensures) ∙ not-false _ (c .if2 .left)
 
 height-requires : tie.Need-height-requires
@@ -51,16 +51,16 @@ returns-3 c =
     let a = past .before .before .before .before .before .args in
     let e = c .before .height .ensures in
     let n = c .if3 .taken in
-    rw (more (past .before .before), taken past, ne-eqb (heightOf (pageOf (a .pool .now) (a .p))) (a .h) (omega arith))
+    rw (more (past .before .before), taken past, ne-eqb (heightOf (pageIn (a .pool .now) (a .p))) (a .h) (omega arith))
 
 right : (c : tie.Else3) →
     let a = c .before .before .before .before .before .before .before .args in
-    eqb (heightOf (pageOf (a .pool .now) (a .p))) (a .h) ≡ true
+    eqb (heightOf (pageIn (a .pool .now) (a .p))) (a .h) ≡ true
 right c =
     let a = c .before .before .before .before .before .before .before .args in
     let e = c .before .height .ensures in
     let n = c .if3 .left in
-    eq-eqb (heightOf (pageOf (a .pool .now) (a .p))) (a .h) (omega arith)
+    eq-eqb (heightOf (pageIn (a .pool .now) (a .p))) (a .h) (omega arith)
 
 count-requires : tie.Need-count-requires
 count-requires c κs = search needs
@@ -72,7 +72,7 @@ returns-4 c =
     let a = past .before .before .before .before .before .args in
     let e = c .before .count .ensures in
     let l = c .if4 .taken in
-    rw (more (past .before .before), taken past, right high, lt-leb (a .low) (countOf (pageOf (a .pool .now) (a .p))) (omega arith))
+    rw (more (past .before .before), taken past, right high, lt-leb (a .low) (countOf (pageIn (a .pool .now) (a .p))) (omega arith))
 
 one : (b : Bool) → b ≡ every (b ∷ [])
 one true = refl
@@ -85,7 +85,7 @@ returns-5 c =
     let a = past .before .before .before .before .before .args in
     let e = c .before .count .ensures in
     let l = c .if4 .left in
-    rw (more (past .before .before), taken past, right high, le-leb (a .low) (countOf (pageOf (a .pool .now) (a .p))) (omega arith), ← e) (one (leb (c .before .count .result) most))
+    rw (more (past .before .before), taken past, right high, le-leb (a .low) (countOf (pageIn (a .pool .now) (a .p))) (omega arith), ← e) (one (leb (c .before .count .result) most))
 
 pub stands-spec : {M : Type 1} → statement M
 stands-spec =

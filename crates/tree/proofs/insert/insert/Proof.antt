@@ -7,8 +7,10 @@ use native.Mathlib.Omega.{arith}
 use lib.ListN.{length, length-set}
 use borrow.Author.Needs.{needs}
 use borrow.Author.Tests.{leb-true, leb-false, not-true, not-false}
-use Rattle.model.specs.Layout.{headWords, mostPages, least, mostEntries, firstWord, word}
+use Rattle.model.specs.Layout.{headWords, mostPages, mostEntries, firstWord, word, today}
+use Rattle.model.specs.Head.{geometryOf}
 use Rattle.lend.specs.Touches.{Sized}
+use Rattle.lend.specs.Pages.{least}
 use Rattle.tree.specs.Insert.{freesIn}
 use Rattle.model.proofs.Head.{head-facts}
 use Rattle.lend.proofs.Touching.{front-word}
@@ -53,6 +55,7 @@ enough : (c : tie.Joined1) → c .before .needed .result ≤ length (freesIn (c 
 enough c = ⊎-elim (λ g. leb-true _ _ (sym (g .2 .ensures) ∙ not-false _ (g .3 .left))) (λ g. omega (arith, g .left)) (c .if1 .came)
 
 new-root-requires : tie.Need-new-root-requires
+unfolding geometryOf
 new-root-requires c κs =
     let below = c .before .before .before .before .before .before .before in
     let n = below .before .before .before in
@@ -75,7 +78,8 @@ long c =
     topped-long (below .before .before .before .before .before .before .before .before .args .pages .now) (below .insert-along .result) (below .insert-along .last .0) (c .match .pool) (topped c)
     ∙ below .insert-along .ensures .long
 
-stored : (c : tie.At-match-came) → (firstWord 0 ≤ length (c .match .pool)) × (word (c .match .pool) 2 ≤ mostEntries least * mostPages)
+stored : (c : tie.At-match-came) → (firstWord today 0 ≤ length (c .match .pool)) × (word (c .match .pool) 2 ≤ mostEntries least * mostPages today)
+unfolding geometryOf
 stored c =
     let below = c .before .before .before in
     let n = below .before .before .before in

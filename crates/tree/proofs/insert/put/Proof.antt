@@ -3,14 +3,13 @@ use mathlib.Core.Path.{_≡_, sym, subst, _∙_}
 use Prim.Native.Nat.{_≤_}
 use native.Mathlib.Omega.{arith}
 use borrow.Author.Needs.{needs}
-use Rattle.model.specs.PageMap.{mapOf}
 use Rattle.model.specs.Tree.{entry}
-use Rattle.model.specs.Page.{pageOf, countOf}
+use Rattle.model.specs.Page.{countOf}
 use Rattle.pagemap.specs.declared.Lowest.{Lowest}
 use Rattle.pagemap.specs.Lowest.{firstOf, took}
 use Rattle.page.specs.declared.Parting.{Parting}
 use Rattle.page.specs.Node.{wider}
-use Rattle.lend.specs.Pages.{most, nodeIn, canSplit, SplitsIn}
+use Rattle.lend.specs.Pages.{most, nodeIn, canSplit, SplitsIn, pageIn, mapIn}
 use Rattle.lend.specs.Touches.{MapBecomes}
 use Rattle.tree.specs.Insert.{freesIn}
 use Rattle.tree.proofs.Putting.{puts-room, puts-none, puts-inside, puts-split, puts-unsound}
@@ -54,7 +53,7 @@ same-length-2 c = search needs
 abbrev start : tie.After-take-lowest → tie.Start
 start c = c .before .before .before .before .before .before
 
-full : (c : tie.After-take-lowest) → most ≤ countOf (pageOf (start c .args .pool .now) (start c .args .p))
+full : (c : tie.After-take-lowest) → most ≤ countOf (pageIn (start c .args .pool .now) (start c .args .p))
 full c =
     let test = c .before .before in
     let count = test .before .count .ensures in
@@ -62,8 +61,8 @@ full c =
 
 -- the map once the page that was found is taken
 took-is : (c : tie.After-take-lowest) (r : Lowest) → c .take-lowest .result ≡ r
-    → MapBecomes (took (mapOf (start c .args .pool .now)) r) (start c .args .pool .now) (c .take-lowest .last .0)
-took-is c r e = subst (λ (r : Lowest). MapBecomes (took (mapOf (start c .args .pool .now)) r) (start c .args .pool .now) (c .take-lowest .last .0)) e (c .take-lowest .ensures .1)
+    → MapBecomes (took (mapIn (start c .args .pool .now)) r) (start c .args .pool .now) (c .take-lowest .last .0)
+took-is c r e = subst (λ (r : Lowest). MapBecomes (took (mapIn (start c .args .pool .now)) r) (start c .args .pool .now) (c .take-lowest .last .0)) e (c .take-lowest .ensures .1)
 
 found : (c : tie.After-take-lowest) (r : Lowest) → c .take-lowest .result ≡ r → firstOf (freesIn (start c .args .pool .now)) ≡ r
 found c r e = sym (c .take-lowest .ensures .0) ∙ e

@@ -6,7 +6,8 @@ use native.Mathlib.Omega.{arith}
 use lib.ListN.{length}
 use borrow.Author.Needs.{needs}
 use borrow.Author.Tests.{not-true}
-use Rattle.model.specs.Page.{pageOf, countOf}
+use Rattle.model.specs.Page.{countOf}
+use Rattle.lend.specs.Pages.{pageIn}
 use Rattle.model.proofs.Cases.{contrary}
 use Rattle.tree.proofs.Saying.{root-count}
 use Rattle.tree.proofs.Neighbours.{sits-sound}
@@ -36,7 +37,7 @@ neighbour-requires-2 c κs = search needs
 returns-2 : tie.Need-returns-2
 returns-2 c low h t s e b =
     let a = c .before .before .before .before .before .args in
-    let n : countOf (pageOf (a .pool .now) (a .u)) ≡ length (t .own) = rw e at (root-count (a .pool .now) (suc h) t (s .stands)) in
+    let n : countOf (pageIn (a .pool .now) (a .u)) ≡ length (t .own) = rw e at (root-count (a .pool .now) (suc h) t (s .stands)) in
     (rw (add-one (a .i)) at (c .neighbour2 .ensures))
     ∙ sits-sound (a .pool .now) low h t s (a .u) (suc (a .i)) e (omega (arith, c .before .if3 .taken, c .before .before .count .ensures))
 

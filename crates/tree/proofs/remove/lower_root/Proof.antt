@@ -5,7 +5,8 @@ use native.Mathlib.Numerals.{add-one}
 use native.Mathlib.Omega.{arith}
 use lib.ListN.{length-set}
 use borrow.Author.Needs.{needs}
-use Rattle.model.specs.Page.{pageOf, countOf}
+use Rattle.model.specs.Page.{countOf}
+use Rattle.lend.specs.Pages.{pageIn}
 use Rattle.tree.proofs.Searching.{one-page, below-inside}
 use Rattle.tree.proofs.Heads.{lowers-not, lowers-unsound, lowers-done}
 use Rattle.tree.proofs.remove.lower_root.Statement.{statement}
@@ -19,7 +20,7 @@ same-length c = search needs
 
 empty : (c : tie.Else1) →
     let a = c .before .before .before .before .args in
-    countOf (pageOf (a .pool .now) (a .root)) ≡ 0
+    countOf (pageIn (a .pool .now) (a .root)) ≡ 0
 empty c = sym (c .before .count .ensures) ∙ c .if1 .left
 
 returns : tie.Need-returns

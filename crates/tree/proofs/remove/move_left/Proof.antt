@@ -4,8 +4,8 @@ use Prim.Native.Nat.{suc, _-_}
 use native.Mathlib.Numerals.{add-one}
 use native.Mathlib.Omega.{arith}
 use borrow.Author.Needs.{needs}
-use Rattle.model.specs.Page.{pageOf, countOf}
-use Rattle.lend.specs.Pages.{canGive}
+use Rattle.model.specs.Page.{countOf}
+use Rattle.lend.specs.Pages.{canGive, pageIn}
 use Rattle.tree.specs.declared.search.Below.the-variants as below
 use Rattle.tree.specs.Search.{belowOf}
 use Rattle.tree.proofs.Searching.{below-inside}
@@ -80,7 +80,7 @@ returns-3 c =
     let r = t .before .before .before in
     let l = r .before .before .before .before .before in
     let a = l .before .before .before .before .before .args in
-    moves-found (a .u) (a .j) (λ l. countOf (pageOf (a .pool .now) l) - 1) (canGive (a .pool .now) (a .u) (a .j)) (a .pool .now) _ _ (left l) (right r) (t .take-left .ensures)
+    moves-found (a .u) (a .j) (λ l. countOf (pageIn (a .pool .now) l) - 1) (canGive (a .pool .now) (a .u) (a .j)) (a .pool .now) _ _ (left l) (right r) (t .take-left .ensures)
 
 pub move-left-spec : {M : Type 1} → statement M
 move-left-spec =

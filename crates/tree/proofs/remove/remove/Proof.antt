@@ -6,7 +6,8 @@ use native.Mathlib.Omega.{arith}
 use lib.ListN.{length, length-set}
 use borrow.Author.Needs.{needs}
 use borrow.Author.Tests.{not-true}
-use Rattle.model.specs.Layout.{headWords, firstWord, word}
+use Rattle.model.specs.Layout.{headWords, firstWord, word, today}
+use Rattle.model.specs.Head.{geometryOf}
 use Rattle.lend.specs.Pages.{Inside}
 use Rattle.lend.specs.Touches.{Sized}
 use Rattle.model.proofs.Lists.{all-at}
@@ -51,6 +52,7 @@ shared-slice-read-lower-root : tie.Need-shared-slice-read-lower-root
 shared-slice-read-lower-root c = search needs
 
 lower-root-requires : tie.Need-lower-root-requires
+unfolding geometryOf
 lower-root-requires c κs =
     let below = c .before .before .before .before in
     let e = below .before .before .before .before .before in
@@ -70,7 +72,7 @@ lower-root-requires c κs =
 long : (c : tie.After-lower-root) → length (c .lower-root .last .0) ≡ length (c .before .before .before .before .before .before .before .before .before .before .before .before .before .before .args .pool .now)
 long c = c .lower-root .ensures .long ∙ c .before .before .before .before .before .remove-along .ensures .long
 
-stored : (c : tie.After-lower-root) → (firstWord 0 ≤ length (c .lower-root .last .0)) × (1 ≤ word (c .lower-root .last .0) 2)
+stored : (c : tie.After-lower-root) → (firstWord today 0 ≤ length (c .lower-root .last .0)) × (1 ≤ word (c .lower-root .last .0) 2)
 stored c =
     let below = c .before .before .before .before .before in
     let e = below .before .before .before .before .before in

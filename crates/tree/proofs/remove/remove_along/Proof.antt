@@ -6,8 +6,8 @@ use Prim.Native.Nat.{ℕ, _-_, _≤_, _<_}
 use native.Mathlib.Omega.{arith}
 use lib.ListN.{length, drop, getD}
 use borrow.Author.Needs.{needs}
-use Rattle.model.specs.Layout.{least, firstWord}
-use Rattle.lend.specs.Pages.{most, Inside}
+use Rattle.model.specs.Layout.{today, firstWord}
+use Rattle.lend.specs.Pages.{least, most, Inside}
 use Rattle.tree.specs.declared.remove.Gone.{Gone}
 use Rattle.tree.specs.Remove.{countBelow, Mends, Inherits, RemovesBelow}
 use Rattle.tree.proofs.Paths.{path-at}
@@ -30,7 +30,7 @@ abbrev μ-loop : tie.MeasureT-loop
 place : (c : tie.In-loop Inv-loop μ-loop) →
     let a = c .before .before .before .before .before .before .before .before .before .before .before .args in
     let i = c .before .loop .i in
-    (i < length (a .pages .now)) × (firstWord 0 ≤ length (c .before .loop .pool)) × Inside (getD (a .pages .now) (i - 1) 0) (c .before .loop .pool) × (getD (a .slots .now) (i - 1) 0 ≤ most)
+    (i < length (a .pages .now)) × (firstWord today 0 ≤ length (c .before .loop .pool)) × Inside (getD (a .pages .now) (i - 1) 0) (c .before .loop .pool) × (getD (a .slots .now) (i - 1) 0 ≤ most)
 place c =
     let turn = c .before in
     let start = turn .before .before .before .before .before .before .before .before .before .before in
@@ -43,7 +43,7 @@ place c =
 heir-place : (c : tie.After-inherit Inv-loop μ-loop) →
     let a = c .before .before .before .before .before .before .before .before .before .before .before .before .before .before .before .args in
     let i = c .before .before .before .before .before .loop .i in
-    (firstWord 0 ≤ length (c .inherit .last .0)) × Inside (getD (a .pages .now) (i - 1) 0) (c .inherit .last .0) × (getD (a .slots .now) (i - 1) 0 ≤ most)
+    (firstWord today 0 ≤ length (c .inherit .last .0)) × Inside (getD (a .pages .now) (i - 1) 0) (c .inherit .last .0) × (getD (a .slots .now) (i - 1) 0 ≤ most)
 heir-place c = omega (arith, place (c .before .before .before .before), c .inherit .ensures .only .long)
 
 -- what is done where a turn begins

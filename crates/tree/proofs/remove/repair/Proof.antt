@@ -5,8 +5,8 @@ use Prim.Native.Nat.{_-_}
 use native.Mathlib.Numerals.{add-one}
 use native.Mathlib.Omega.{arith}
 use borrow.Author.Needs.{needs}
-use Rattle.model.specs.Layout.{least}
-use Rattle.model.specs.Page.{pageOf, countOf}
+use Rattle.model.specs.Page.{countOf}
+use Rattle.lend.specs.Pages.{least, pageIn}
 use Rattle.tree.specs.Remove.{countBelow}
 use Rattle.tree.proofs.Planning.{PoorLeft, PoorRight, repair-left, repair-right, repair-join, repair-first}
 use Rattle.tree.proofs.remove.repair.Statement.{statement}
@@ -24,7 +24,7 @@ sub-t8 c = search needs
 returns : tie.Need-returns
 returns c =
     let a = c .before .before .before .before .args in
-    repair-left least (countOf (pageOf (a .pool .now) (a .u))) (countBelow (a .pool .now) (a .u)) (a .i) (a .i - 1) (omega arith) (search needs)
+    repair-left least (countOf (pageIn (a .pool .now) (a .u))) (countBelow (a .pool .now) (a .u)) (a .i) (a .i - 1) (omega arith) (search needs)
 
 count-requires : tie.Need-count-requires
 count-requires c κs = search needs
@@ -38,7 +38,7 @@ count-below-requires-2 c κs = search needs
 -- the left neighbour has none to give
 left-poor : (c : tie.Joined1) →
     let a = c .before .before .args in
-    PoorLeft least (countOf (pageOf (a .pool .now) (a .u))) (countBelow (a .pool .now) (a .u)) (a .i)
+    PoorLeft least (countOf (pageIn (a .pool .now) (a .u))) (countBelow (a .pool .now) (a .u)) (a .i)
 left-poor c j e =
     let a = c .before .before .args in
     ⊎-elim
@@ -54,12 +54,12 @@ returns-2 c =
     let k = c .before .before .before in
     let a = k .before .before .before .args in
     let told = rw (add-one (a .i)) at (c .before .count-below2 .ensures) in
-    repair-right least (countOf (pageOf (a .pool .now) (a .u))) (countBelow (a .pool .now) (a .u)) (a .i) (left-poor (k .before)) (search needs) (omega arith)
+    repair-right least (countOf (pageIn (a .pool .now) (a .u))) (countBelow (a .pool .now) (a .u)) (a .i) (left-poor (k .before)) (search needs) (omega arith)
 
 -- nor has the right one
 right-poor : (c : tie.Joined3) →
     let a = c .before .before .before .before .args in
-    PoorRight least (countOf (pageOf (a .pool .now) (a .u))) (countBelow (a .pool .now) (a .u)) (a .i)
+    PoorRight least (countOf (pageIn (a .pool .now) (a .u))) (countBelow (a .pool .now) (a .u)) (a .i)
 right-poor c h =
     let a = c .before .before .before .before .args in
     ⊎-elim
@@ -74,13 +74,13 @@ returns-3 : tie.Need-returns-3
 returns-3 c =
     let j = c .before in
     let a = j .before .before .before .before .args in
-    repair-join least (countOf (pageOf (a .pool .now) (a .u))) (countBelow (a .pool .now) (a .u)) (a .i) (a .i - 1) (omega arith) (left-poor (j .before .before)) (right-poor j)
+    repair-join least (countOf (pageIn (a .pool .now) (a .u))) (countBelow (a .pool .now) (a .u)) (a .i) (a .i - 1) (omega arith) (left-poor (j .before .before)) (right-poor j)
 
 returns-4 : tie.Need-returns-4
 returns-4 c =
     let j = c .before in
     let a = j .before .before .before .before .args in
-    repair-first least (countOf (pageOf (a .pool .now) (a .u))) (countBelow (a .pool .now) (a .u)) (a .i) (omega arith) (right-poor j)
+    repair-first least (countOf (pageIn (a .pool .now) (a .u))) (countBelow (a .pool .now) (a .u)) (a .i) (omega arith) (right-poor j)
 
 pub repair-spec : {M : Type 1} → statement M
 repair-spec =

@@ -2,7 +2,8 @@
 use Prim.Native.Nat.{_-_}
 use native.Mathlib.Omega.{arith}
 use borrow.Author.Needs.{needs}
-use Rattle.model.specs.Page.{pageOf, countOf}
+use Rattle.model.specs.Page.{countOf}
+use Rattle.lend.specs.Pages.{pageIn}
 use Rattle.tree.proofs.Heirs.{takes-inside, takes-none, takes-last}
 use Rattle.tree.proofs.remove.take_out.Statement.{statement}
 use Rattle.tree.proofs.remove.take_out.Tie as tie
@@ -60,7 +61,7 @@ returns-4 c =
     let last = remove .before .before in
     let count = last .before .before .before .before .before in
     let a = count .before .before .before .args in
-    takes-last (a .pool .now) (a .p) (a .s) (countOf (pageOf (a .pool .now) (a .p)) - 1) _ _ (omega arith) (omega arith)
+    takes-last (a .pool .now) (a .p) (a .s) (countOf (pageIn (a .pool .now) (a .p)) - 1) _ _ (omega arith) (omega arith)
     (rw (count .count .ensures) at (last .entry-at .ensures)) (rw (count .count .ensures) at (remove .remove2 .ensures))
 
 pub take-out-spec : {M : Type 1} → statement M

@@ -7,9 +7,8 @@ use lib.ListN.{length, getD, set, length-set}
 use borrow.Author.Needs.{needs}
 use borrow.Author.Tests.{not-true, not-false}
 use borrow.Rule.Slice.PartMut.{same-len-mid}
-use Rattle.model.specs.Page.{pageOf}
 use Rattle.page.specs.Page.{holdsAt}
-use Rattle.lend.specs.Pages.{most, Inside}
+use Rattle.lend.specs.Pages.{most, Inside, pageIn}
 use Rattle.tree.specs.Steps.{Overs}
 use Rattle.page.proofs.Pages.{holds-facts}
 use Rattle.tree.proofs.Paths.{behind-even, behindBack, path-at}
@@ -24,7 +23,7 @@ start c = c .before .before .before .before .before .before .before
 first : (c : tie.Start) → Inside (getD (c .args .pages .now) 0 0) (c .args .pool .now)
 first c = path-at _ _ (c .args .slots .now) (c .pre .1) 0 (c .pre .0 .1) .0
 
-here : (c : tie.Else1) → holdsAt most (pageOf (start c .args .pool .now) (getD (start c .args .pages .now) 0 0)) (start c .args .s) 0 ≡ true
+here : (c : tie.Else1) → holdsAt most (pageIn (start c .args .pool .now) (getD (start c .args .pages .now) 0 0)) (start c .args .s) 0 ≡ true
 here c = rw (c .before .before .page-at .ensures .0) at (sym (c .before .holds .ensures) ∙ not-false _ (c .if1 .left))
 
 slice-read-p : tie.Need-slice-read-p
