@@ -1,5 +1,6 @@
--- The numbers of a tree: its pages, as many as walking meets; the fewest and most entries of so many pages; the fewest pages and entries of so many
--- levels. Over m, the fewest entries of a page that is not the root; in a lawful geometry a tree of at most so many pages has at most so many levels.
+-- The numbers of a tree: its pages, as many as walking meets; the fewest and most entries of so many pages; the fewest
+-- pages and entries of so many levels. Over m, the fewest entries of a page that is not the root. In a lawful geometry,
+-- a tree of no more pages than there may be has no more levels than there may be.
 -- Assumes nothing.
 use mathlib.Core.Path.{_≡_, refl, _∙_}
 use mathlib.Core.List.{List, [], _∷_}

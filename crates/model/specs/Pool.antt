@@ -1,4 +1,5 @@
--- What a sound pool holds: its geometry, P, its kind, the tree with its levels, and the cursor as a place number. And the same read from words.
+-- What a sound pool holds: its geometry, P, its kind, the tree with its levels, and the cursor as a place number.
+-- And the same read from words.
 -- Assumes nothing: these are definitions.
 use mathlib.Core.Bool.{cond}
 use mathlib.Core.List.{List}
