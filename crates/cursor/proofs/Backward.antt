@@ -1,5 +1,6 @@
--- The entry before the gap, in a sound pool: where word 6 is 0 there is none, else it is the one whose key word 7 names. So a search for that key finds it, and the gap before that key is where
--- the gap goes back to. What each call answers there meets its promise.
+-- The entry before the gap, in a sound pool: where word 6 is 0 there is none, else it is the one whose key word 7
+-- names. So a search for that key finds it, and the gap before that key is where the gap goes back to. What each call
+-- answers there meets its promise.
 -- Assumes nothing.
 use mathlib.Core.Path.{_≡_, refl, sym, ap, ap₂, subst, _∙_}
 use mathlib.Core.Bool.{true}

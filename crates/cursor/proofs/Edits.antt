@@ -1,5 +1,6 @@
--- Insert after, remove next and close: what a way out of the call answers meets the call's promise. In a sound pool the gap's path is the one that insertion and removal ask for, and the entry
--- read after the gap is the one that goes; on any other words a refusal has changed no word. (Where the search of the gap fails: `meets-unsound`.)
+-- Insert after, remove next and close: what a way out of the call answers meets the call's promise. In a sound pool the
+-- gap's path is the one that insertion and removal ask for, and the entry read after the gap is the one that goes; on
+-- any other words a refusal has changed no word. (Where the search of the gap fails: `meets-unsound`.)
 -- Assumes nothing.
 use mathlib.Core.Path.{_≡_, refl, sym, ap, _∙_}
 use mathlib.Core.Bool.{true, false}

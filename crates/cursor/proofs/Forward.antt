@@ -1,4 +1,5 @@
--- The calls over the entry after the gap: what an arm of next, peek next and write next answers meets the call's promise. With no such entry the gap is at the end, and no word changes.
+-- The calls over the entry after the gap: what an arm of next, peek next and write next answers meets the call's
+-- promise. With no such entry the gap is at the end, and no word changes.
 -- Assumes nothing.
 use mathlib.Core.Path.{_≡_, refl, sym, ap, _∙_}
 use mathlib.Core.Option.{Option, none, some}

@@ -1,4 +1,5 @@
--- Laws of the gap's words: what it means to pass the first tests; in a sound pool, where the words put the gap; and that words 5 to 7 laid for another cursor hold the pool with that cursor.
+-- Laws of the gap's words: what it means to pass the first tests; in a sound pool, where the words put the gap; and
+-- that words 5 to 7 laid for another cursor hold the pool with that cursor.
 -- Assumes nothing.
 use mathlib.Core.Path.{_≡_, refl, sym, subst, _∙_}
 use mathlib.Core.Bool.{true}

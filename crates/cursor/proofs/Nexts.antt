@@ -1,5 +1,6 @@
--- Laws of the entry after the gap of a sound pool: where it stands it is the model's next entry, where there is none the gap is at the end, and a key fits between the gap's neighbours in
--- code exactly where the model says so. And what is sought by the gap's aim is that entry, with the gap's path.
+-- Laws of the entry after the gap of a sound pool: where it stands it is the model's next entry, where there is none
+-- the gap is at the end, and a key fits between the gap's neighbours in code exactly where the model says so. And what
+-- is sought by the gap's aim is that entry, with the gap's path.
 -- Assumes nothing.
 use mathlib.Core.Path.{_≡_, sym, ap, ap₂, _∙_}
 use mathlib.Core.Bool.{Bool, true, false}

@@ -1,5 +1,5 @@
--- The entry after the gap in code: where it stands, with the gap's path; and whether a key goes between it and the entry that the gap names. On any words a place answered lies inside the
--- pool.
+-- The entry after the gap in code: where it stands, with the gap's path; and whether a key goes between it and the
+-- entry that the gap names. On any words a place answered lies inside the pool.
 -- Assumes nothing: these are definitions.
 use mathlib.Core.Path.{_≡_}
 use mathlib.Core.Bool.{Bool, true, false, cond}

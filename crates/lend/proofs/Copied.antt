@@ -1,5 +1,5 @@
--- A page filled entry by entry from its front: what both loops keep, that the page holds the first n entries of the node it is to hold, with the
--- children around them, and that no other page has changed.
+-- A page filled entry by entry from its front: what both loops keep, that the page holds the first n entries of the
+-- node it is to hold, with the children around them, and that no other page has changed.
 -- Assumes nothing.
 use mathlib.Core.Path.{_≡_, refl, sym, ap, ap₂, _∙_}
 use mathlib.Core.Bool.{true}
@@ -98,7 +98,8 @@ module _ (w : List ℕ) (l r n : ℕ) (many : countOf (pageIn w l) ≡ n + 1) wh
   joining-all : {w₁ : List ℕ} (j : ℕ) → countOf (pageIn w r) ≤ j → Joining l r (n + 1 + j) w w₁ → Becomes l (chained w l r) w w₁
   joining-all j past k = copied-all (chained w l r) chained-forks (n + 1 + j) (omega (arith, chained-own)) k
 
--- the entry e between them and page r's first child have been put behind page l: what the loop starts with, and what its end will be
+-- the entry e between them and page r's first child have been put behind page l: what the loop starts with, and what
+-- its end will be
 pub record Begun (l r n m : ℕ) (e : Entry) (w w₁ : List ℕ) : Type 0 where
   pub apart : l ≢ r
   pub fits : n + m < most

@@ -1,5 +1,5 @@
--- The law of a lent page: from the law of a lent part (`page`'s `Parts`), at a page's start and size. What a callee says of the page that it was lent
--- is said of the pool; and pages lent one after the other are one change.
+-- The law of a lent page: from the law of a lent part (`page`'s `Parts`), at a page's start and size. What a callee
+-- says of the page that it was lent is said of the pool; and pages lent one after the other are one change.
 -- Assumes nothing.
 use mathlib.Core.Path.{_≡_, sym, ap, _∙_, subst₂}
 use mathlib.Core.Bool.{Bool}

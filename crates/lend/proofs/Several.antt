@@ -1,5 +1,5 @@
--- Pages changed one after the other: what each callee says of its page at its time, said of the pool before and after. A page that a callee was not lent
--- is as it was, so the callees' words are of the first pool's pages.
+-- Pages changed one after the other: what each callee says of its page at its time, said of the pool before and after.
+-- A page that a callee was not lent is as it was, so the callees' words are of the first pool's pages.
 -- Assumes nothing.
 use mathlib.Core.Path.{_≡_, refl, sym, _∙_}
 use mathlib.Core.Bool.{Bool, true, false}

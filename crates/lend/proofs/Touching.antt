@@ -1,12 +1,13 @@
--- Pages and the map changed one after the other: which pages may have changed, and that head and other pages are as they were.
+-- Pages and the map changed one after the other: which pages may have changed, and that head and other pages are as
+-- they were.
 -- Assumes nothing.
 use mathlib.Core.Path.{_≡_, refl, sym, ap, _∙_}
 use mathlib.Core.Logic.{_≢_}
 use mathlib.Core.List.{List, _++_}
 use Prim.Native.Nat.{ℕ, _+_, _≤_, _<_, _*_}
 use native.Mathlib.Omega.{arith}
-use lib.ListN.{length, take, drop-of-length-le, drop, getD}
-use lib.Seq.{take-take, getD-take}
+use lib.ListN.{length, take, drop-of-length-le, drop}
+use lib.Seq.{take-take}
 use Rattle.model.specs.Lists.{All}
 use Rattle.model.specs.Layout.{headWords, pageWords, mapWords, firstWord, word, pagesIn, today}
 use Rattle.model.specs.PageMap.{mapAt}
@@ -14,7 +15,7 @@ use Rattle.model.specs.Page.{pageAt}
 use Rattle.page.specs.Runs.{part, put, Changed}
 use Rattle.lend.specs.Pages.{OnlyPages, pageIn, mapIn}
 use Rattle.lend.specs.Touches.{Touches, MapBecomes, Sized}
-use Rattle.model.proofs.Lists.{all-left, all-right}
+use Rattle.model.proofs.Lists.{all-left, all-right, front-word}
 use Rattle.model.proofs.Lawful as lawful
 use Rattle.page.proofs.Parts.{changed, part-low, part-high, length-part}
 
@@ -36,10 +37,6 @@ touches-wider qs c f = record { long = c .long; head = c .head; others = λ q h.
 -- the words in front of the pages hold the head
 pub front-head : (w w′ : List ℕ) → take (firstWord today 0) w′ ≡ take (firstWord today 0) w → take headWords w′ ≡ take headWords w
 front-head w w′ e = sym (take-take headWords (firstWord today 0) w′ (omega arith)) ∙ ap (take headWords) e ∙ take-take headWords (firstWord today 0) w (omega arith)
-
--- words in front that are the same, one by one
-pub front-word : (n : ℕ) (w w′ : List ℕ) → take n w′ ≡ take n w → (i : ℕ) → i < n → word w′ i ≡ word w i
-front-word n w w′ e i h = sym (getD-take n w′ i 0 h) ∙ ap (λ (l : List ℕ). getD l i 0) e ∙ getD-take n w i 0 h
 
 pub touches-word : {ps w w′ : List ℕ} → Touches ps w w′ → (i : ℕ) → i < headWords → word w′ i ≡ word w i
 touches-word {w} {w′} c = front-word headWords w w′ (c .head)

@@ -1,5 +1,6 @@
--- Pages of one pool, lent one after the other: which words may change, and what is left of the pages by `model`'s nodes.
--- Splitting, taking from a neighbour and joining each have one shape: where their tests hold it is done, else no word changes.
+-- Pages of one pool, lent one after the other: which words may change, and what is left of the pages by `model`'s
+-- nodes. Splitting, taking from a neighbour and joining each have one shape: where their tests hold it is done, else no
+-- word changes.
 -- Assumes nothing: these are definitions.
 use mathlib.Core.Path.{_≡_}
 use mathlib.Core.Bool.{Bool, true, false, not}
@@ -100,7 +101,8 @@ areApart u l r = not (eqb u l) ∷ not (eqb u r) ∷ not (eqb l r) ∷ []
 abbrev pub glued : List ℕ → ℕ → ℕ → ℕ → ℕ → Node ℕ
 glued w u i l r = glue (nodeIn w l) (entryOf w u i) (nodeIn w r)
 
--- the entry at slot `fs` of page `from` can go up to entry i of page u, and that one down to slot `ts` of page `to`; children at `fa` and `ta`
+-- the entry at slot `fs` of page `from` can go up to entry i of page u, and that one down to slot `ts` of page `to`;
+-- children at `fa` and `ta`
 unfoldable pub canPass : List ℕ → ℕ → ℕ → ℕ → ℕ → ℕ → ℕ → ℕ → ℕ → Bool
 canPass w u i from fs fa to ts ta =
     every (every (areApart u from to) ∷ holdsAt most (pageIn w u) i 0 ∷ holdsAt most (pageIn w from) fs fa ∷ roomAt most (pageIn w to) ts ta ∷ [])
@@ -135,7 +137,8 @@ canJoin w u i l r =
     every (every (areApart u l r) ∷ holdsAt most (pageIn w u) i (suc i) ∷ leb 1 (countOf (pageIn w l)) ∷ leb 1 (countOf (pageIn w r))
     ∷ ltb (countOf (pageIn w l) + countOf (pageIn w r)) most ∷ [])
 
--- the left page holds the three, and the parent loses entry i and the right page's number; the right page keeps its words
+-- the left page holds the three, and the parent loses entry i and the right page's number; the right page keeps its
+-- words
 pub record JoinsIn (u i l r : ℕ) (ok : Bool) (w w′ : List ℕ) (a : Change) : Type 0 where
   pub answer : a ≡ did ok
   pub kept : ok ≡ false → w′ ≡ w

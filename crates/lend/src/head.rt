@@ -1,4 +1,5 @@
-// The head: whether the length is allowed and the head fits, which every call asks first, and the number of levels. The tests come in document 01's order.
+// The head: whether the length is allowed and the head fits, which every call asks first, and the number of levels. The
+// tests come in document 01's order.
 ghost use Rattle.model.specs.Layout.{today, headWords, mostPages, mostLevels, allowed};
 ghost use mathlib.Core.Path.{_≡_};
 ghost use mathlib.Core.Bool.{true};

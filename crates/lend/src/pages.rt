@@ -1,5 +1,6 @@
-// A page lent out of the pool's middle, `&mut pool[a..b]`, to the crate `page`; and what moves between two pages of one pool, which are lent one after the
-// other: an entry and a child travel by value, one at a time. Every function takes any words; page numbers lie inside the pool.
+// A page lent out of the pool's middle, `&mut pool[a..b]`, to the crate `page`; and what moves between two pages of one
+// pool, which are lent one after the other: an entry and a child travel by value, one at a time. Every function takes
+// any words; page numbers lie inside the pool.
 ghost use Rattle.model.specs.Layout.{today, pageWords};
 ghost use mathlib.Core.Path.{_≡_};
 ghost use mathlib.Core.Logic.{_≢_};
@@ -297,7 +298,8 @@ fn can_pass(
     page::has_room(page_at(pool, to), MOST, ts, ta)
 }
 
-// The entry at slot `fs` of page `from` goes up to entry `i` of page `u`, and that one down before slot `ts` of page `to`; the child at `fa` goes along, to `ta`.
+// The entry at slot `fs` of page `from` goes up to entry `i` of page `u`, and that one down before slot `ts` of page
+// `to`; the child at `fa` goes along, to `ta`.
 fn pass(
     pool: &mut [u64],
     u: usize,
@@ -392,7 +394,8 @@ fn append(pool: &mut [u64], l: usize, key: u64, value: u64, r: usize)
     }
 }
 
-// Two neighbours and the entry between them become the left page; the right page keeps its words, and its number leaves the parent.
+// Two neighbours and the entry between them become the left page; the right page keeps its words, and its number leaves
+// the parent.
 pub fn join(pool: &mut [u64], u: usize, i: usize, l: usize, r: usize) -> Change
     requires { ⌜ Inside u (now pool) × Inside l (now pool) × Inside r (now pool) × (i < most) ⌝ }
     ensures { λ a. ⌜ JoinsIn u i l r (canJoin (now (pool .entry)) u i l r) (now (pool .entry)) (now (pool .exit)) a ⌝ }

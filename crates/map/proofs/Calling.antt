@@ -1,5 +1,6 @@
--- The calls by one key, of map and set: what an arm of the call answers meets the call's promise. What insertion, removal and search say of a sound pool is what document 01 says of the call;
--- on any other words a refusal has changed no word.
+-- The calls by one key, of map and set: what an arm of the call answers meets the call's promise. What insertion,
+-- removal and search say of a sound pool is what document 01 says of the call; on any other words a refusal has changed
+-- no word.
 -- Assumes nothing.
 use mathlib.Core.Path.{_≡_, refl, sym, ap, ap₂, subst, _∙_}
 use mathlib.Core.Bool.{Bool, true, false, not, cond}

@@ -1,4 +1,5 @@
--- Each call's promise decides it (model, specs/Agree): no two answers say the same, so any two outcomes of a call, from the same words and arguments, agree. A line for each call.
+-- Each call's promise decides it (model, specs/Agree): no two answers say the same, so any two outcomes of a call, from
+-- the same words and arguments, agree. A line for each call.
 -- Assumes nothing.
 use mathlib.Core.Path.{refl}
 use mathlib.Core.Bool.{cond}

@@ -1,4 +1,5 @@
--- Pools made, cleared and copied, on any words: words zeroed and copied one after the other, the words of a pool just made, and what each of the three calls gives.
+-- Pools made, cleared and copied, on any words: words zeroed and copied one after the other, the words of a pool just
+-- made, and what each of the three calls gives.
 -- Assumes nothing.
 use mathlib.Core.Path.{_≡_, refl, sym, ap, subst₂, _∙_}
 use mathlib.Core.Bool.{true}

@@ -1,5 +1,6 @@
--- One entry by its key in a sound pool: the entry after the key's gap is the key's where the key is there. So what is read at that spot tells whether it is, and its value; and from where the
--- key was sought follows what is added or struck.
+-- One entry by its key in a sound pool: the entry after the key's gap is the key's where the key is there. So what is
+-- read at that spot tells whether it is, and its value; and from where the key was sought follows what is added or
+-- struck.
 -- Assumes nothing.
 use mathlib.Core.Path.{_≡_, refl, sym, ap, _∙_}
 use mathlib.Core.Bool.{Bool, true, false}

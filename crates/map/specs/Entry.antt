@@ -1,5 +1,5 @@
--- One entry by its key, in a pool whose head fits: where it stands, a new one put in, one struck out; what each answer says. On any words a place answered lies inside the pool, and what is
--- not done has changed no word.
+-- One entry by its key, in a pool whose head fits: where it stands, a new one put in, one struck out; what each answer
+-- says. On any words a place answered lies inside the pool, and what is not done has changed no word.
 -- Assumes nothing: these are definitions.
 use mathlib.Core.Path.{_≡_}
 use mathlib.Core.Bool.{Bool, true, false}

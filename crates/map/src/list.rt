@@ -1,5 +1,6 @@
-// Lists: the entries that are not before the lower bound and are before the upper one, in key order, into lent slices: the lesser of their number and the shortest slice. One descent to
-// the lower bound, then the tree's steps, each answer taken apart and gone on with only for the entry that it carries.
+// Lists: the entries that are not before the lower bound and are before the upper one, in key order, into lent slices:
+// the lesser of their number and the shortest slice. One descent to the lower bound, then the tree's steps, each answer
+// taken apart and gone on with only for the entry that it carries.
 ghost use mathlib.Core.Path.{_≡_};
 ghost use mathlib.Core.List.{[], _∷_};
 ghost use mathlib.Core.Bool.{true};
@@ -38,7 +39,8 @@ fn store(slice: &mut [u64], i: usize, value: u64)
     }
 }
 
-// A list that ends with no further entry, after `n`: where the pool is found unsound before anything is written it is refused; else it has told what it wrote.
+// A list that ends with no further entry, after `n`: where the pool is found unsound before anything is written it is
+// refused; else it has told what it wrote.
 fn stop(step: Step, n: usize) -> Listed
     ensures { λ r. ⌜ Stops step n r ⌝ }
 {

@@ -1,4 +1,5 @@
-// The calls that take a pool of either kind: make, clear, count, is-empty, copy, check. Make, clear and copy are exact on any words, sound or not.
+// The calls that take a pool of either kind: make, clear, count, is-empty, copy, check. Make, clear and copy are exact
+// on any words, sound or not.
 ghost use mathlib.Core.Path.{_≡_};
 ghost use mathlib.Core.Bool.{true};
 ghost use Prim.Native.Nat.{_≤_};

@@ -1,4 +1,5 @@
--- Any two outcomes that a promise allows, from the same words and arguments, agree: one law for each shape of promise. (A line for each call: map and cursor, proofs/Determined.)
+-- Any two outcomes that a promise allows, from the same words and arguments, agree: one law for each shape of promise.
+-- (A line for each call: map and cursor, proofs/Determined.)
 -- Assumes nothing.
 use mathlib.Core.Path.{_≡_, refl, sym, ap, ap₂, subst, _∙_}
 use mathlib.Core.Bool.{Bool, true}
@@ -34,7 +35,8 @@ module _ {R A : Type 0} (of : R → Outcome A) (tells : Tells of) where
   same-given : {r s : R} {o : Outcome A} → of r ≡ o → of s ≡ o → r ≡ s
   same-given {r} {s} a b = tells r s (a ∙ sym b)
 
-  -- the shape: early refusals that come to both, refusals that leave all as it was, and what is left to show where the early tests pass
+  -- the shape: early refusals that come to both, refusals that leave all as it was, and what is left to show where the
+  -- early tests pass
   agree : (w : List ℕ) (early : List Test) (r s : R) (Same Near : Type 0) → ((n : ℕ) → refusal early ≡ suc n → (of r ≡ refused (suc n)) × (of s ≡ refused (suc n)))
       → ((n m : ℕ) → of r ≡ refused n → of s ≡ refused m → Same) → (Same → Near) → (Sound w → refusal early ≡ 0 → (r ≡ s) × Near) → Agree of w early r s Same Near
   agree w early r s Same Near told kept near passed = record {

@@ -1,4 +1,5 @@
--- Two sound pools that hold the same agree in each word that document 01 does not free: what a pool holds decides those words.
+-- Two sound pools that hold the same agree in each word that document 01 does not free: what a pool holds decides those
+-- words.
 -- Assumes nothing.
 use mathlib.Core.Path.{_≡_, sym, ap, ap₂, _∙_}
 use mathlib.Core.List.{List, [], _∷_, _++_}

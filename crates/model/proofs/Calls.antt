@@ -1,4 +1,5 @@
--- What each changing call leaves, of a pool that is right: the entries are the list model's, and the pool stays right where the call is not refused.
+-- What each changing call leaves, of a pool that is right: the entries are the list model's, and the pool stays right
+-- where the call is not refused.
 -- Assumes nothing.
 use mathlib.Core.Path.{_≡_, refl, subst, _∙_}
 use mathlib.Core.Bool.{true, false, Bool, cond}

@@ -1,4 +1,5 @@
--- What a head that fits says, as facts about its words, and the way back: words of which the facts hold have a head that fits.
+-- What a head that fits says, as facts about its words, and the way back: words of which the facts hold have a head
+-- that fits.
 -- Assumes nothing.
 use mathlib.Core.Path.{_≡_, refl, sym, _∙_}
 use mathlib.Core.Bool.{Bool, true}

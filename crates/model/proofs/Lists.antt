@@ -174,6 +174,10 @@ pub all-map : {A : Type 0} (P Q : A → Type 0) (l : List A) → ((x : A) → P 
 all-map P Q [] f a = tt
 all-map P Q (x ∷ xs) f a = (f x (a .0), all-map P Q xs f (a .1))
 
+-- the numbers of two lists that are the same in front, one by one
+pub front-word : (n : ℕ) (w v : List ℕ) → take n v ≡ take n w → (i : ℕ) → i < n → getD v i 0 ≡ getD w i 0
+front-word n w v e i h = sym (getD-take n v i 0 h) ∙ ap (λ (l : List ℕ). getD l i 0) e ∙ getD-take n w i 0 h
+
 -- ---- map
 
 module _ {S U : Type 0} (f : S → U) where

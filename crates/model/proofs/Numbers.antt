@@ -27,7 +27,8 @@ pages-some x = go (x .levels) (x .tree)
     go zero t l = absurd (omega arith)
     go (suc h) t l = omega arith
 
--- they are as many as walking meets, where it meets none past P. `f` says how often it meets page p below a child, `k` how many pages stand there
+-- they are as many as walking meets, where it meets none past P. `f` says how often it meets page p below a child, `k`
+-- how many pages stand there
 met-among : {S : Type 0} (f : ℕ → S → ℕ) (k : S → ℕ) (P : ℕ) → ((s : S) → ((p : ℕ) → P ≤ p → f p s ≡ 0) → sumTo (λ p. f p s) P ≡ k s)
     → (l : List S) → ((p : ℕ) → P ≤ p → sum (f p) l ≡ 0) → sumTo (λ p. sum (f p) l) P ≡ sum k l
 met-among f k P one [] z = sumTo-none (λ p. 0) P (λ i l. refl)

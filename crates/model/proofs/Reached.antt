@@ -1,5 +1,5 @@
--- The pages reached from the root by words alone, against the tree: in a sound pool they are those that the map marks, each has one route, and the routes to
--- leaves are all as long as the levels say.
+-- The pages reached from the root by words alone, against the tree: in a sound pool they are those that the map marks,
+-- each has one route, and the routes to leaves are all as long as the levels say.
 -- Assumes nothing.
 use mathlib.Core.Path.{_≡_, refl, ap, ap₂}
 use mathlib.Core.Logic.{_≢_}

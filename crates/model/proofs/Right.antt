@@ -1,4 +1,5 @@
--- What soundness says of what a pool holds, with no word in it; that it follows from soundness; and that each change that a call makes keeps it.
+-- What soundness says of what a pool holds, with no word in it; that it follows from soundness; and that each change
+-- that a call makes keeps it.
 -- The numbers of demand 3 hold of every such pool.
 -- Assumes nothing.
 use mathlib.Core.Path.{_≡_, refl, _∙_}

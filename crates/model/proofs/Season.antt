@@ -1,4 +1,5 @@
--- A season of use (demand 3): what each call does to the number of entries, by its answer alone; that a sound pool is as demand 3 asks; and, by induction over the calls, that every pool of a season is.
+-- A season of use (demand 3): what each call does to the number of entries, by its answer alone; that a sound pool is
+-- as demand 3 asks; and, by induction over the calls, that every pool of a season is.
 -- Assumes nothing.
 use mathlib.Core.Path.{_≡_, refl, sym, ap, _∙_}
 use mathlib.Core.Bool.{true, false, not, _&&_}

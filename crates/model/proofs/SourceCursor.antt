@@ -1,5 +1,6 @@
--- The source's clauses about the cursor, of any call that meets its promise on a sound pool, with no premise on the order of keys: open at a bound, next, prev, the peeks, the writes,
--- insert after, remove next, close. The cursor after is well formed, for the pool after is sound.
+-- The source's clauses about the cursor, of any call that meets its promise on a sound pool, with no premise on the
+-- order of keys: open at a bound, next, prev, the peeks, the writes, insert after, remove next, close. The cursor after
+-- is well formed, for the pool after is sound.
 -- Assumes nothing.
 use mathlib.Core.Path.{_≡_, refl, sym, ap, _∙_}
 use mathlib.Core.Bool.{Bool, true, false, not, cond}
@@ -101,7 +102,8 @@ value-none : (o : Option Entry) → none ≡ valueOf o → none ≡ o
 value-none none h = refl
 value-none (some e) h = never (cc)
 
--- an insert after that answers has a key that fits, and one refused with 6 has not: no other test of its call has that number
+-- an insert after that answers has a key that fits, and one refused with 6 has not: no other test of its call has that
+-- number
 fits-given : (unheaded other shut fits full : Bool) →
     let r : Outcome (Unit {0}) = given (cond unheaded 1 (cond other 2 (cond shut 5 (cond (not fits) 6 (cond full 7 0))))) tt in
     (answered tt ≡ r → fits ≡ true) × (refused 6 ≡ r → fits ≡ false)

@@ -1,4 +1,5 @@
--- The source's clauses on a map, for every answer that a call's contract allows on a sound pool, with no premise on the order of keys.
+-- The source's clauses on a map, for every answer that a call's contract allows on a sound pool, with no premise on the
+-- order of keys.
 -- Where a call is refused the source is silent, and `Meets` says that no word has changed.
 -- Assumes nothing.
 use mathlib.Core.Path.{_≡_, refl, sym, ap, _∙_}
@@ -228,7 +229,8 @@ module _ (k : ℕ) (w v : List ℕ) (o : Option ℕ) (s : Sound w) (m : Meets (m
 
 -- ---- replace, for the source's `get_mut`
 
--- `borrowed_key_mutated` holds exactly when the first map has the old value at the key, and the second is the first with the new one
+-- `borrowed_key_mutated` holds exactly when the first map has the old value at the key, and the second is the first
+-- with the new one
 pub mutated-altered : (before after : ℕ → Option ℕ) (k old new : ℕ) → Mutated before after k old new ↔ (before k ≡ some old) × ((j : ℕ) → after j ≡ altered before k (some new) j)
 mutated-altered before after k old new = (
   λ m. (m .first, λ j. either-eq k j (λ q. rw (← q, eq-eqb k k refl) (m .second)) (λ n. rw (ne-eqb k j n) (let e = rw (ne-eqb k j n) at (m .rest j) in sym e))),
@@ -256,7 +258,8 @@ module _ (k x : ℕ) (w v : List ℕ) (o : Option ℕ) (s : Sound w) (m : Meets 
       (was, m .still s (rw (member-view w k, was)))
 
 module _ (k : ℕ) (w : List ℕ) (a : Found) (s : Sound w) (seen : Meets (mapGet k) w w (answered a)) where
-  -- get, then replace: with the cursor closed it must answer, for get's answer says that the head fits and the pool is a map
+  -- get, then replace: with the cursor closed it must answer, for get's answer says that the head fits and the pool is
+  -- a map
   pub get-replaced : (x old : ℕ) {v : List ℕ} {r : Outcome (Option ℕ)} → a .value ≡ some old → openWord w ≡ 0 → Meets (mapReplace k x) w v r
       → (r ≡ answered (some old)) × Mutated (view w) (view v) k old x
   get-replaced x old {v} e shut stored =

@@ -1,4 +1,5 @@
--- The source's clauses on a set, for every answer that a call's contract allows on a sound pool, with no premise on the order of keys.
+-- The source's clauses on a set, for every answer that a call's contract allows on a sound pool, with no premise on the
+-- order of keys.
 -- Its count is the map's: `count-keys` (SourceMap).
 -- Assumes nothing.
 use mathlib.Core.Path.{_≡_, sym, ap, _∙_}

@@ -1,10 +1,11 @@
--- No call reads the words that document 01 frees: a pool that differs from a sound one in those words alone is sound and holds the same, and a call's answer and what it leaves are the same again.
+-- No call reads the words that document 01 frees: a pool that differs from a sound one in those words alone is sound
+-- and holds the same, and a call's answer and what it leaves are the same again.
 -- Assumes nothing.
 use mathlib.Core.Path.{_≡_, refl, sym, ap, ap₂, _∙_}
 use mathlib.Core.List.{List, [], _∷_, _++_}
 use Prim.Native.Nat.{ℕ, suc, _+_, _<_}
 use native.Mathlib.Omega.{arith}
-use lib.ListN.{length, take, drop, getD, length-take, length-drop}
+use lib.ListN.{length, take, drop, length-take, length-drop}
 use lib.Seq.{getD-take, getD-drop, ext-getD}
 use Rattle.model.specs.Layout.{headWords, mapWords, today, firstWord, word}
 use Rattle.model.specs.declared.Geometry.{Geometry}
@@ -27,6 +28,7 @@ use Rattle.model.specs.ListCalls.{Column, listTests, Lists}
 use Rattle.model.specs.CursorCalls.{openTests, cursorTests}
 use Rattle.model.specs.Unread.{Unread, ListsUnread, PlaysUnread, MakesUnread, CopiesUnread}
 use Rattle.model.proofs.Cases.{either-zero}
+use Rattle.model.proofs.Lists.{front-word}
 use Rattle.model.proofs.Standing.{standing-alike}
 use Rattle.model.proofs.Right.{sound-right}
 use Rattle.model.proofs.Alike.{alike}
@@ -38,11 +40,11 @@ module _ (w x : List ℕ) (s : Sound w) (k : Alike w x) where
   abbrev γ : Geometry
   γ = geometryOf w
 
-  front-word : (i : ℕ) → i < firstWord γ 0 → word x i ≡ word w i
-  front-word i l = sym (getD-take (firstWord γ 0) x i 0 l) ∙ ap (λ (f : List ℕ). getD f i 0) (sym (k .front)) ∙ getD-take (firstWord γ 0) w i 0 l
+  like-word : (i : ℕ) → i < firstWord γ 0 → word x i ≡ word w i
+  like-word = front-word (firstWord γ 0) w x (sym (k .front))
 
   pub alike-geometry : geometryOf x ≡ γ
-  alike-geometry = geometry-same x w (front-word 0 (omega arith)) (front-word 9 (omega arith))
+  alike-geometry = geometry-same x w (like-word 0 (omega arith)) (like-word 9 (omega arith))
 
   map-same : mapAt γ x ≡ mapAt γ w
   unfolding mapAt
@@ -50,7 +52,7 @@ module _ (w x : List ℕ) (s : Sound w) (k : Alike w x) where
       ext-getD 0 (mapAt γ x) (mapAt γ w) (simp (length-take, length-drop, k .long))
       (λ i h.
       let l : i < mapWords γ = omega (arith, simp length-take at h) in
-      getD-take (mapWords γ) (drop headWords x) i 0 l ∙ getD-drop headWords x i 0 ∙ front-word (headWords + i) (omega arith)
+      getD-take (mapWords γ) (drop headWords x) i 0 l ∙ getD-drop headWords x i 0 ∙ like-word (headWords + i) (omega arith)
       ∙ sym (getD-take (mapWords γ) (drop headWords w) i 0 l ∙ getD-drop headWords w i 0))
 
   alike-written : Written x (poolOf w)
@@ -63,17 +65,17 @@ module _ (w x : List ℕ) (s : Sound w) (k : Alike w x) where
         long = sym (k .long) ∙ a .long;
         head = cc (
           a .head,
-          front-word 0 (omega arith),
-          front-word 1 (omega arith),
-          front-word 2 (omega arith),
-          front-word 3 (omega arith),
-          front-word 4 (omega arith),
-          front-word 5 (omega arith),
-          front-word 6 (omega arith),
-          front-word 7 (omega arith),
-          front-word 8 (omega arith),
+          like-word 0 (omega arith),
+          like-word 1 (omega arith),
+          like-word 2 (omega arith),
+          like-word 3 (omega arith),
+          like-word 4 (omega arith),
+          like-word 5 (omega arith),
+          like-word 6 (omega arith),
+          like-word 7 (omega arith),
+          like-word 8 (omega arith),
         );
-        spare = λ i b l. front-word i (omega arith) ∙ a .spare i b l;
+        spare = λ i b l. like-word i (omega arith) ∙ a .spare i b l;
         bits = λ q. rw (alike-geometry, map-same) (a .bits q);
         stands =
             rw (alike-geometry, leastOf) (standing-alike (leastOf w) (pageOf w) (pageAt γ x) (poolOf w .whole .levels) (poolOf w .whole .tree)
@@ -87,7 +89,7 @@ module _ (w x : List ℕ) (s : Sound w) (k : Alike w x) where
   alike-pool = written-pool x (poolOf w) (sound-right w s) alike-written
 
   head-same : (headed x ≡ headed w) × (kindWord x ≡ kindWord w) × (openWord x ≡ openWord w)
-  head-same = (alike-sound .head ∙ sym (s .head), front-word 8 (omega arith), front-word 5 (omega arith))
+  head-same = (alike-sound .head ∙ sym (s .head), like-word 8 (omega arith), like-word 5 (omega arith))
 
 -- ---- the calls
 

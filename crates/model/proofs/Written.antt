@@ -1,5 +1,6 @@
--- The words that hold a pool: the head by what the pool holds, the map's bits by the pages met, and the tree standing in its pages. A sound pool's words
--- are so, and words that are so are sound and hold that pool: what a call that stores has to show.
+-- The words that hold a pool: the head by what the pool holds, the map's bits by the pages met, and the tree standing
+-- in its pages. A sound pool's words are so, and words that are so are sound and hold that pool: what a call that
+-- stores has to show.
 -- Assumes nothing.
 use mathlib.Core.Path.{_≡_, sym, ap, _∙_, refl}
 use mathlib.Core.Bool.{cond, true}
@@ -13,7 +14,7 @@ use borrow.Author.Tests.{eq-eqb, ne-eqb}
 use Rattle.model.specs.declared.Geometry.{Geometry}
 use Rattle.model.specs.Lists.{tab}
 use Rattle.model.specs.Layout.{word, mostEntries}
-use Rattle.model.specs.Head.{leastOf, pageCount, countWord, rootWord, levelsWord, openWord, afterWord, keyWord}
+use Rattle.model.specs.Head.{geometryOf, leastOf, pageCount, countWord, rootWord, levelsWord, openWord, afterWord, keyWord}
 use Rattle.model.specs.Tree.{Entry, held, Rising, Formed, Tree, meets, entries, times, Shaped, size, pagesOf}
 use Rattle.model.specs.Page.{pageOf}
 use Rattle.model.specs.Standing.{Standing, rootOf}
@@ -23,7 +24,7 @@ use Rattle.model.specs.Sound.{Sound}
 use Rattle.model.specs.Written.{openIn, headOf, Written, afterIn, keyIn}
 use Rattle.model.proofs.Cases.{either-eq, either-lt, same-self}
 use Rattle.model.proofs.Lists.{getD-tab}
-use Rattle.model.proofs.Lawful.{pages-of}
+use Rattle.model.proofs.Lawful.{pages-of, geometry-lawful}
 use Rattle.model.proofs.Head.{HeadFacts, head-facts, head-fits}
 use Rattle.model.proofs.Entries.{has-key, gap-after-has, gap-after-entry, has-entry}
 use Rattle.model.proofs.Gap.{size-some}
@@ -116,9 +117,13 @@ unfolding entries
 root-there m zero t s = (λ z. (refl, refl), λ l. absurd (omega arith))
 root-there m (suc h) t s = (λ z. absurd (omega (arith, size-some m 1 h t (omega arith) s)), λ l. omega arith)
 
+-- P
+pub written-pages : {w : List ℕ} {p : Pool} → Written w p → pageCount w ≡ p .pages
+written-pages {w} {p} a = pages-of (geometryOf w) (geometry-lawful w) (length w) (p .pages) (rw (a .geometry) (a .long))
+
 module _ (w : List ℕ) (p : Pool) (r : Right p) (a : Written w p) where
   pages-back : pageCount w ≡ p .pages
-  pages-back = rw (a .geometry) (pages-of (p .geometry) (r .lawful) (length w) (p .pages) (a .long))
+  pages-back = written-pages a
 
   least-back : leastOf w ≡ leastBy p
   least-back = ap (λ (γ : Geometry). γ .least) (a .geometry)

@@ -1,5 +1,5 @@
--- Document 01, "What the promises have to decide": any two outcomes that a promise allows, from the same words and arguments, agree. One statement for each shape of promise;
--- what it leaves open is on the list of docs/EXCEPTIONS.md.
+-- Document 01, "What the promises have to decide": any two outcomes that a promise allows, from the same words and
+-- arguments, agree. One statement for each shape of promise; what it leaves open is on the list of docs/EXCEPTIONS.md.
 -- Assumes nothing: these are definitions.
 use mathlib.Core.Path.{_≡_}
 use mathlib.Core.Bool.{Bool, true}
@@ -22,7 +22,8 @@ use Rattle.model.specs.Playback.{played, Plays}
 abbrev pub Tells : {R B : Type 0} → (R → B) → Type 0
 Tells {R} of = (r s : R) → of r ≡ of s → r ≡ s
 
--- r and s are two answers; `Same` says that all that was lent is left the same, `Near` that it is but for the words that document 01 frees
+-- r and s are two answers; `Same` says that all that was lent is left the same, `Near` that it is but for the words
+-- that document 01 frees
 pub record Agree {R A : Type 0} (of : R → Outcome A) (w : List ℕ) (early : List Test) (r s : R) (Same Near : Type 0) : Type 0 where
   -- on any words: where lengths, head or arguments refuse the call; and between any two refusals
   pub first : 1 ≤ refusal early → (r ≡ s) × Same

@@ -1,5 +1,5 @@
--- Two pools that agree in each word that document 01 does not free: the head, the page map, and of each page that is taken its count, its height, its
--- entries and, above the leaves, its children.
+-- Two pools that agree in each word that document 01 does not free: the head, the page map, and of each page that is
+-- taken its count, its height, its entries and, above the leaves, its children.
 -- Assumes nothing: these are definitions.
 use mathlib.Core.Path.{_≡_}
 use mathlib.Core.List.{List}

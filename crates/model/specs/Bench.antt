@@ -87,7 +87,8 @@ pub record Table : Type 0 where
   pub n : without1 .whole ≡ oneLevel (leaf 0 (2 ∷ 3 ∷ 4 ∷ 5 ∷ 6 ∷ 7 ∷ 9 ∷ 10 ∷ []))
   pub n-free : freeOf without1 ≡ 1 ∷ 2 ∷ []
 
--- "The pool": 128 words is the smallest, 8,192 words give P = 253; lengths 0, 96, 127 and 129 are refused, and so is P = 4,097
+-- "The pool": 128 words is the smallest, 8,192 words give P = 253; lengths 0, 96, 127 and 129 are refused, and so
+-- is P = 4,097
 pub record Lengths : Type 0 where
   pub smallest : allowed today 128 ≡ true
   pub usual : allowed today 8192 ≡ true

@@ -1,5 +1,6 @@
--- Document 01, "The calls", cursor, on a map: open at lower bound, open at upper bound, next, prev, peek next, peek prev, write next, write prev,
--- insert after, remove next, close. The gap is a place number; both ends of the list have the answer `none`, and nothing changes.
+-- Document 01, "The calls", cursor, on a map: open at lower bound, open at upper bound, next, prev, peek next, peek
+-- prev, write next, write prev, insert after, remove next, close. The gap is a place number; both ends of the list have
+-- the answer `none`, and nothing changes.
 -- Assumes nothing: these are definitions.
 use mathlib.Core.Bool.{not, Bool, false, true}
 use mathlib.Core.Option.{Option, none, some}

@@ -52,7 +52,8 @@ bothOrNeither a b = cond (eqb a 0) (eqb b 0) (not (eqb b 0))
 abbrev pub spareWords : List ℕ → List ℕ
 spareWords w = tab (headWords - 9) (λ i. word w (9 + i))
 
--- of a head in a pool of P pages; a set's word 5 is 0, so the two are not both 1; words 2, 3 and 4 are all zero or all nonzero
+-- of a head in a pool of P pages; a set's word 5 is 0, so the two are not both 1; words 2, 3 and 4 are all zero or all
+-- nonzero
 abbrev pub numberTests : Geometry → ℕ → List ℕ → List Bool
 numberTests γ P w =
     eqb (word w 0) 1

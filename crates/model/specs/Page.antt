@@ -1,4 +1,5 @@
--- Document 01, "The pool", a page: word 0 entry count, word 1 height, then keys, values and child page numbers; and the tree read from pages.
+-- Document 01, "The pool", a page: word 0 entry count, word 1 height, then keys, values and child page numbers; and the
+-- tree read from pages.
 -- `most` is the most entries a page may hold: 9, so keys lie from word 2, values from word 11, children from word 20.
 -- Assumes nothing: these are definitions.
 use mathlib.Core.Path.{_≡_}

@@ -1,4 +1,5 @@
--- Document 01, "The pool", the page map: bit b of word w, counted from the lowest, stands for page 64w + b; 1 means taken.
+-- Document 01, "The pool", the page map: bit b of word w, counted from the lowest, stands for page 64w + b; 1 means
+-- taken.
 -- And the free pages in the order in which they are taken: lowest first.
 -- Assumes nothing: these are definitions.
 use mathlib.Core.Bool.{cond}

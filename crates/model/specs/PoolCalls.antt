@@ -39,7 +39,8 @@ poolCount = reads (λ w. unfit w ∷ []) (λ p. length (heldBy p))
 abbrev pub poolIsEmpty : Call Bool
 poolIsEmpty = reads (λ w. unfit w ∷ []) (λ p. eqb (length (heldBy p)) 0)
 
--- copy: the source's length or head, or the destination's length; lengths that differ; the destination's cursor, where its head fits
+-- copy: the source's length or head, or the destination's length; lengths that differ; the destination's cursor, where
+-- its head fits
 abbrev pub copyTests : (source destination : List ℕ) → List Test
 copyTests w v =
     1 when not (headed w && allowed (geometryOf w) (length v))

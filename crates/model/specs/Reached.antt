@@ -1,4 +1,5 @@
--- The pages reached from the root, by words alone: a route is the numbers of the children that it follows, root first. A leaf is a page of height 0.
+-- The pages reached from the root, by words alone: a route is the numbers of the children that it follows, root first.
+-- A leaf is a page of height 0.
 -- Assumes nothing: these are definitions.
 use mathlib.Core.List.{List, [], _∷_}
 use Prim.Native.Nat.{ℕ, pred, _≤_}

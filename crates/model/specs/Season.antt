@@ -1,5 +1,6 @@
--- Demand 3. A season: a pool of P pages made fresh, then any calls in any order with any arguments, refused ones included, each step any outcome that the call's promise allows.
--- By the answers alone it is counted how many new entries were accepted and how many were removed. `Demand` says what holds at each moment.
+-- Demand 3. A season: a pool of P pages made fresh, then any calls with any arguments, refused ones included, each step
+-- any outcome that the call's promise allows. By the answers alone it is counted how many new entries were accepted and
+-- how many were removed. `Demand` says what holds at each moment.
 -- Assumes nothing: these are definitions.
 use mathlib.Core.Path.{_≡_}
 use mathlib.Core.Bool.{Bool, true, false}

@@ -1,5 +1,6 @@
 -- Document 01, "A pool is sound when ..": one field a clause, in the paper's order.
--- Free pages, slots past a page's count, a leaf's child words and words 30 and 31 of a page are read by none of them: they may hold anything.
+-- Free pages, slots past a page's count, a leaf's child words and words 30 and 31 of a page are read by none of them:
+-- they may hold anything.
 -- Assumes nothing: these are definitions.
 use mathlib.Core.Path.{_≡_}
 use mathlib.Core.Bool.{true}
@@ -30,7 +31,8 @@ pub record Sound (w : List ℕ) : Type 0 where
   pub count : length (held (wholeOf w)) ≡ countWord w
   -- a set's values are 0
   pub values : kindWord w ≡ 1 → All (λ e. e .value ≡ 0) (held (wholeOf w))
-  -- a closed cursor has words 6 and 7 zero, a gap at the start has word 7 zero, and a gap after an entry names a key present
+  -- a closed cursor has words 6 and 7 zero, a gap at the start has word 7 zero, and a gap after an entry names a key
+  -- present
   pub closed : openWord w ≡ 0 → (afterWord w ≡ 0) × (keyWord w ≡ 0)
   pub start : afterWord w ≡ 0 → keyWord w ≡ 0
   pub named : afterWord w ≡ 1 → has (keyWord w) (held (wholeOf w)) ≡ true

@@ -1,4 +1,5 @@
--- The words that document 01 frees are read by no call: from a sound pool, and from one that differs in those words alone (`Alike`), any two outcomes agree, and leave two such pools again.
+-- The words that document 01 frees are read by no call: from a sound pool, and from one that differs in those words
+-- alone (`Alike`), any two outcomes agree, and leave two such pools again.
 -- Assumes nothing: these are definitions.
 use mathlib.Core.Path.{_≡_}
 use mathlib.Core.List.{List}

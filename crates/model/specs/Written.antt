@@ -1,4 +1,5 @@
--- The words that hold a pool: the head by what the pool holds, the map's bits by the pages met, and the tree standing in its pages.
+-- The words that hold a pool: the head by what the pool holds, the map's bits by the pages met, and the tree standing
+-- in its pages.
 -- What a call that stores has to leave; with `Right` it is soundness (proofs/Written).
 -- Assumes nothing: these are definitions.
 use mathlib.Core.Path.{_≡_}

@@ -1,4 +1,5 @@
-// Exported, for a pool of either kind: make, clear, count, is-empty, copy, check. Names, arguments and words of `out` are those of include/moorpontoon.h.
+// Exported, for a pool of either kind: make, clear, count, is-empty, copy, check. Names, arguments and words of `out`
+// are those of include/moorpontoon.h.
 ghost use mathlib.Core.Path.{_≡_};
 ghost use Rattle.model.specs.Layout.{today};
 ghost use Rattle.model.specs.Head.{geometryOf, kindWord};

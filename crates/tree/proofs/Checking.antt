@@ -1,5 +1,6 @@
--- A pool is sound exactly where check's walk goes through, meets as many pages as bits are set and as many entries as the head says, and the cursor's words are
--- right. Keys that rise meet no page twice: the first key of a page would be met twice with it.
+-- A pool is sound exactly where check's walk goes through, meets as many pages as bits are set and as many entries as
+-- the head says, and the cursor's words are right. Keys that rise meet no page twice: the first key of a page would be
+-- met twice with it.
 -- Assumes nothing.
 use mathlib.Core.Path.{_≡_, refl, sym, ap, subst, _∙_}
 use mathlib.Core.Bool.{Bool, true, false}

@@ -1,5 +1,5 @@
--- The three ways of one page on an insertion's path: its child stayed whole; it split and there is room for what it handed up; it split and the page is
--- full, so that it splits too, onto the next fresh page. And so of a whole path.
+-- The three ways of one page on an insertion's path: its child stayed whole; it split and there is room for what it
+-- handed up; it split and the page is full, so that it splits too, onto the next fresh page. And so of a whole path.
 -- Assumes nothing.
 use mathlib.Core.Path.{_≡_, refl, sym, ap, _∙_}
 use mathlib.Core.Logic.{_≢_}
@@ -269,7 +269,8 @@ module _ (w ps ss : List ℕ) (e : Entry) (z : Sized w) (some : 1 ≤ length ps)
         (λ low h t g a path G. grows-put a z e w₁ w₂ k v child r G (rw (first-page (suc h) t g (omega arith) (path .pages), first-slot h t g (path .slots)) at P));
   }
 
--- ---- from the leaf upward: from place i of the path to place i - 1, and from any place to all of it where nothing is handed up
+-- ---- from the leaf upward: from place i of the path to place i - 1, and from any place to all of it where nothing is
+-- handed up
 
 module _ (w ps ss : List ℕ) (e : Entry) (z : Sized w) where
   pub along-put : (i : ℕ) → 0 < i → i ≤ length ps → (w₁ w₂ : List ℕ) (k v child : ℕ) (r : up.the-data) → InsertsBelow w (drop i ps) (drop i ss) e w₁ (up.Split k v child)

@@ -1,5 +1,6 @@
--- What an insertion below makes of a tree that sits in the pool, one page of the path after the other: from what its child's insertion left to what is
--- left of the tree. No page is met twice, so the pages that change are the path's and the fresh ones, and all others stand as they stood.
+-- What an insertion below makes of a tree that sits in the pool, one page of the path after the other: from what its
+-- child's insertion left to what is left of the tree. No page is met twice, so the pages that change are the path's and
+-- the fresh ones, and all others stand as they stood.
 -- Assumes nothing.
 use mathlib.Core.Path.{_≡_, sym}
 use mathlib.Core.Logic.{_≢_}
@@ -69,7 +70,8 @@ module _ (h : ℕ) (t : Tree (suc h)) (g : ℕ) where
   unfolding run
   run-goes e b = rw (eq-eqb (runBelow h t g) h e, lt-leb (suc (length (t .own))) most (omega arith))
 
--- a page that is none of those that may change is not the root's page, nor one of the child's, nor the fresh page that the root's page takes
+-- a page that is none of those that may change is not the root's page, nor one of the child's, nor the fresh page that
+-- the root's page takes
 module _ (w : List ℕ) (h : ℕ) (t : Tree (suc h)) (g q : ℕ) (a : All (λ p. q ≢ p) (grownPages w (suc h) t g)) where
   pub grown-page : q ≢ t .page
   unfolding gapPages

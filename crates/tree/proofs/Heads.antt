@@ -1,5 +1,5 @@
--- Words of the head stored: neither the map nor a page changes, and the head's other words are as they were. The root's two words, 3 and 4: a new
--- root, and a root that is freed.
+-- Words of the head stored: neither the map nor a page changes, and the head's other words are as they were. The root's
+-- two words, 3 and 4: a new root, and a root that is freed.
 -- Assumes nothing.
 use mathlib.Core.Path.{_≡_, refl, sym, ap, _∙_, subst, subst₂}
 use mathlib.Core.Logic.{_≢_}

@@ -1,5 +1,5 @@
--- One page's part in a removal: the entry at a slot leaves a leaf's words, or the last does; and in an upper page the one that was handed up stands for
--- the one that goes.
+-- One page's part in a removal: the entry at a slot leaves a leaf's words, or the last does; and in an upper page the
+-- one that was handed up stands for the one that goes.
 -- Assumes nothing.
 use mathlib.Core.Path.{_≡_, refl, sym, ap, subst₂, _∙_}
 use mathlib.Core.List.{List, [], _∷_}

@@ -1,5 +1,5 @@
--- An entry inserted into a pool: the free pages by the map are those by the tree; a tree that has grown along a path, with a new root where it split, is
--- `model`'s, and the words then hold the pool with that entry put at the gap.
+-- An entry inserted into a pool: the free pages by the map are those by the tree; a tree that has grown along a path,
+-- with a new root where it split, is `model`'s, and the words then hold the pool with that entry put at the gap.
 -- Assumes nothing.
 use mathlib.Core.Path.{subst, _≡_, refl, sym, ap, _∙_, subst₂}
 use mathlib.Core.Bool.{true, false}
@@ -11,7 +11,7 @@ use lib.ListN.{length, take, getD, set, length-set}
 use borrow.Author.Tests.{eq-eqb, ne-eqb, lt-ltb, le-ltb}
 use Rattle.model.specs.Lists.{All, tab, ins}
 use Rattle.model.specs.Layout.{headWords, pagesIn, word, today}
-use Rattle.model.specs.Head.{levelsWord, headed}
+use Rattle.model.specs.Head.{geometryOf, levelsWord, headed}
 use Rattle.model.specs.PageMap.{bitAt}
 use Rattle.model.specs.Tree.{Entry, noEntry, entry, Tree, Whole, held, meets, times, Formed}
 use Rattle.model.specs.Standing.{rootOf, numberOf, Standing}
@@ -32,25 +32,27 @@ use Rattle.tree.specs.declared.insert.Up.the-variants as up
 use Rattle.tree.specs.Sits.{PathOf}
 use Rattle.tree.specs.Insert.{freesIn, freshIn, Needs, upOf, UpStands, Grows, InsertsBelow, NewRoots, Inserts}
 use Rattle.model.proofs.Cases.{either-eq, contrary, never}
-use Rattle.model.proofs.Lists.{length-ins, ins-before, all-append, all-left, all-right, all-take, all-at, take-tab, getD-tab, length-tab}
+use Rattle.model.proofs.Lists.{length-ins, ins-before, all-append, all-left, all-right, all-take, all-at, take-tab, getD-tab, length-tab, front-word}
 use Rattle.model.proofs.PageMap.{free-same}
 use Rattle.model.proofs.Insert.{upTimes, Used, insertAt-used, insertAt-times, insert-held, upLeft, insertAt-root}
 use Rattle.model.proofs.Standing.{standing-frame}
 use Rattle.model.proofs.Right.{Right, sound-right}
 use Rattle.model.proofs.Written.{sound-written}
+use Rattle.model.proofs.Written as written
 use Rattle.pagemap.proofs.Taking.{take-counts, lowest-kth}
-use Rattle.lend.proofs.Touching.{map-bits, front-word}
+use Rattle.lend.proofs.Touching.{map-bits}
 use Rattle.lend.proofs.Fitting.{headed-sized}
 use Rattle.tree.proofs.Sitting.{sound-sits}
 use Rattle.tree.proofs.Paths.{first-page}
 use Rattle.tree.proofs.Heads.{head-page, head-stored}
-use Rattle.tree.proofs.Leaving.{head-word, key-stays, Carries, carries-leaves, leaves-written, written-today, written-least, written-bits, written-formed}
+use Rattle.tree.proofs.Leaving.{head-word, key-stays, Carries, carries-leaves, leaves-written, written-least, written-bits, written-formed}
 
 -- ---- the pool by its words
 
 -- P
 pub written-pages : {w : List ℕ} {p : Pool} → Written w p → pagesIn today (length w) ≡ p .pages
-written-pages a = let e = rw (written-today a) at (a .long) in omega arith
+unfolding geometryOf
+written-pages a = written.written-pages a
 
 -- the free pages by the map are those by the tree
 pub written-frees : {w : List ℕ} {p : Pool} → Written w p → freesIn w ≡ freeOf p

@@ -1,4 +1,5 @@
--- What a change leaves of a pool: the words of its head one by one, and the pool whose words they are, which has another tree and all else as before.
+-- What a change leaves of a pool: the words of its head one by one, and the pool whose words they are, which has
+-- another tree and all else as before.
 -- Assumes nothing.
 use mathlib.Core.Path.{_≡_, refl, sym, ap, _∙_}
 use mathlib.Core.Logic.{_≢_}

@@ -1,5 +1,5 @@
--- What check's walk meets, step by step: entries, and children whose walk is known. A step goes through exactly where what is met can follow what was met
--- before, and steps that go through one after another go through as one.
+-- What check's walk meets, step by step: entries, and children whose walk is known. A step goes through exactly where
+-- what is met can follow what was met before, and steps that go through one after another go through as one.
 -- Assumes nothing.
 use mathlib.Core.Path.{_≡_, refl, sym, ap, subst}
 use mathlib.Core.Bool.{true}
@@ -159,7 +159,8 @@ module _ (w : List ℕ) where
         ))
         (λ n. rw n (λ f. contrary (follows-entry f) n))
 
-  -- ---- children and entries in turn. `f` says how a child is walked, `inside` what it holds, `size` its pages, `L` that it stands right
+  -- ---- children and entries in turn. `f` says how a child is walked, `inside` what it holds, `size` its pages, `L`
+  -- that it stands right
 
   module _ (f : ℕ → Tally → Tally) (stop : (c : ℕ) → f c tally.Broken ≡ tally.Broken) where
     pub turn-stop : (cs : List ℕ) (os : List Entry) → inTurn w f cs os tally.Broken ≡ tally.Broken

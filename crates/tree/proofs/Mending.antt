@@ -1,5 +1,5 @@
--- A page of a tree in the pool, of which one child may have one entry too few: the plan by the words is the plan of the tree, what it asks holds, and the
--- tree that it leaves stands in the words.
+-- A page of a tree in the pool, of which one child may have one entry too few: the plan by the words is the plan of the
+-- tree, what it asks holds, and the tree that it leaves stands in the words.
 -- Assumes nothing.
 use mathlib.Core.Path.{_≡_, refl, sym, ap, subst, _∙_}
 use mathlib.Core.Bool.{true}

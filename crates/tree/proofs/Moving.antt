@@ -1,5 +1,5 @@
--- Two neighbours below a page, by the words: one entry moved through the page, or the two joined and the right one freed. Where a child is not found
--- nothing changes.
+-- Two neighbours below a page, by the words: one entry moved through the page, or the two joined and the right one
+-- freed. Where a child is not found nothing changes.
 -- Assumes nothing.
 use mathlib.Core.Path.{_≡_, refl, ap, subst₂, _∙_}
 use mathlib.Core.Bool.{Bool, true}

@@ -1,4 +1,5 @@
--- The neighbours of a child in a tree that sits in the pool have 4 to 9 entries; so what a removal reads along a path is sound.
+-- The neighbours of a child in a tree that sits in the pool have 4 to 9 entries; so what a removal reads along a path
+-- is sound.
 -- Assumes nothing.
 use mathlib.Core.Path.{_≡_, refl, sym, ap, _∙_}
 use mathlib.Core.Bool.{Bool, true, false}

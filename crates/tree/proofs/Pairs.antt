@@ -1,5 +1,6 @@
--- Two neighbours of a page whose tree stands in the pool: the page, the two and all other pages of the tree are apart, so when words of the three change
--- all else stands as it did; and what the words of the three become by numbers is what the tree becomes.
+-- Two neighbours of a page whose tree stands in the pool: the page, the two and all other pages of the tree are apart,
+-- so when words of the three change all else stands as it did; and what the words of the three become by numbers is
+-- what the tree becomes.
 -- Assumes nothing.
 use mathlib.Core.Path.{_≡_, refl, sym, ap, ap₂, _∙_}
 use mathlib.Core.Bool.{true}

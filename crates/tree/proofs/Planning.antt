@@ -1,4 +1,5 @@
--- A child's count by the words, and the plan by which a page left with three is mended: it asks few counts, and acts on child i and a neighbour.
+-- A child's count by the words, and the plan by which a page left with three is mended: it asks few counts, and acts on
+-- child i and a neighbour.
 -- Assumes nothing.
 use mathlib.Core.Path.{_≡_, refl, sym, ap, subst}
 use mathlib.Core.List.{List}

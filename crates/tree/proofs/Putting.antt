@@ -1,4 +1,5 @@
--- An entry and the child behind it put into one page: what the callees say of the page, the map and the other pages, said of the pool before and after.
+-- An entry and the child behind it put into one page: what the callees say of the page, the map and the other pages,
+-- said of the pool before and after.
 -- Assumes nothing.
 use mathlib.Core.Path.{_≡_, refl, sym, _∙_}
 use mathlib.Core.Bool.{true}

@@ -1,5 +1,5 @@
--- An entry removed from a pool: a root left without entries gives way to its only child, the tree is `model`'s, and the words then hold the pool without
--- that entry.
+-- An entry removed from a pool: a root left without entries gives way to its only child, the tree is `model`'s, and the
+-- words then hold the pool without that entry.
 -- Assumes nothing.
 use mathlib.Core.Path.{_≡_, refl, sym, ap, _∙_}
 use mathlib.Core.Bool.{Bool, true, false}
@@ -27,7 +27,7 @@ use Rattle.tree.specs.declared.remove.Gone.{Gone}
 use Rattle.tree.specs.Sits.{PathOf, Sits, AtEntry}
 use Rattle.tree.specs.Remove.{nearIn, RemovesBelow, CanRemove, Lowered, Lowers, Removes}
 use Rattle.model.proofs.Cases.{contrary, either-le, never}
-use Rattle.model.proofs.Lists.{all-at, length-del, del-before}
+use Rattle.model.proofs.Lists.{all-at, length-del, del-before, front-word}
 use Rattle.model.proofs.Sums.{sum-single}
 use Rattle.model.proofs.PageMap.{bitAt-lt}
 use Rattle.model.proofs.Head.{head-facts}
@@ -38,7 +38,7 @@ use Rattle.model.proofs.Standing.{standing-frame}
 use Rattle.model.proofs.Right.{sound-right}
 use Rattle.model.proofs.Written.{sound-written}
 use Rattle.pagemap.proofs.Map.{clear-bits}
-use Rattle.lend.proofs.Touching.{map-bits, front-word}
+use Rattle.lend.proofs.Touching.{map-bits}
 use Rattle.lend.proofs.Fitting.{headed-sized}
 use Rattle.tree.proofs.Saying.{root-count, child-found}
 use Rattle.tree.proofs.Sitting.{sound-sits}

@@ -1,4 +1,5 @@
--- The run of full pages along a path: one page more at the path's end, and that it is `model`'s run of the tree that sits in the pool.
+-- The run of full pages along a path: one page more at the path's end, and that it is `model`'s run of the tree that
+-- sits in the pool.
 -- Assumes nothing.
 use mathlib.Core.Path.{_≡_, refl, ap, _∙_}
 use mathlib.Core.Bool.{cond}

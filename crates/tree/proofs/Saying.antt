@@ -1,5 +1,6 @@
--- A page of a tree in the pool by its words: the node that its words make, by page numbers, and the tree's node say the same, and so do their halves and two
--- neighbours glued. And what the words of its root's page say of a tree that stands in the pool: its count, its children, and where they lie.
+-- A page of a tree in the pool by its words: the node that its words make, by page numbers, and the tree's node say the
+-- same, and so do their halves and two neighbours glued. And what the words of its root's page say of a tree that
+-- stands in the pool: its count, its children, and where they lie.
 -- Assumes nothing.
 use mathlib.Core.Path.{_≡_, sym, ap, ap₂, _∙_}
 use mathlib.Core.List.{List, _∷_, _++_, map, map-append}

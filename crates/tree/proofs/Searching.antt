@@ -1,4 +1,5 @@
--- Search, page by page: what each answer of a page's tests says, and that on a tree that sits in the pool the page's words answer as the tree's search goes.
+-- Search, page by page: what each answer of a page's tests says, and that on a tree that sits in the pool the page's
+-- words answer as the tree's search goes.
 -- One law for each way in which the search of a page ends.
 -- Assumes nothing.
 use mathlib.Core.Path.{_≡_, refl, sym, ap, subst, _∙_}

@@ -1,4 +1,5 @@
--- Seek, page by page: one law for each way in which the search of a page ends, with the slices that it fills; the path filled from the front; and the path found in a whole pool.
+-- Seek, page by page: one law for each way in which the search of a page ends, with the slices that it fills; the path
+-- filled from the front; and the path found in a whole pool.
 -- Assumes nothing.
 use mathlib.Core.Path.{_≡_, refl, sym, ap, ap₂, subst, _∙_}
 use mathlib.Core.Bool.{Bool, true, false}
@@ -124,7 +125,8 @@ module _ (w : List ℕ) (p : ℕ) (aim : Aim) where
 
 -- ---- a path that is filled from the front
 
--- what the search from page `at` fills in from place i on, the search from page p fills in behind what stands before place i
+-- what the search from page `at` fills in from place i on, the search from page p fills in behind what stands before
+-- place i
 abbrev pub Rest : List ℕ → ℕ → Aim → List ℕ → List ℕ → ℕ → ℕ → List ℕ → List ℕ → Type 0
 Rest w p aim ps₀ ss₀ at i ps ss =
     (r : Bool) (qs rs : List ℕ) → SeeksBelow w at aim (drop i ps) (drop i ss) qs rs r → SeeksBelow w p aim ps₀ ss₀ (take i ps ++ qs) (take i ss ++ rs) r

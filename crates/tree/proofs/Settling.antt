@@ -1,5 +1,6 @@
--- Where a removal along a path may stop: at a page that hands nothing up and whose child on the path has enough entries. The page keeps its count, so in a
--- sound tree each page above finds enough in its child, has nothing to mend, and keeps its words.
+-- Where a removal along a path may stop: at a page that hands nothing up and whose child on the path has enough
+-- entries. The page keeps its count, so in a sound tree each page above finds enough in its child, has nothing to mend,
+-- and keeps its words.
 -- Assumes nothing.
 use mathlib.Core.Path.{_≡_, refl, sym, ap, subst₂, _∙_}
 use mathlib.Core.List.{List}

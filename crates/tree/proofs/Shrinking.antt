@@ -1,5 +1,6 @@
--- A removal along a path, page by page: from what is promised of the child, of the entry that stands for the one that goes, and of the mending, what is
--- promised of the page's tree. Each page is met once, so the child's removal leaves the other pages, and the heir leaves all but the page itself.
+-- A removal along a path, page by page: from what is promised of the child, of the entry that stands for the one that
+-- goes, and of the mending, what is promised of the page's tree. Each page is met once, so the child's removal leaves
+-- the other pages, and the heir leaves all but the page itself.
 -- Assumes nothing.
 use mathlib.Core.Path.{_≡_, refl, sym, ap, subst₂, _∙_}
 use mathlib.Core.Bool.{Bool, true, false}

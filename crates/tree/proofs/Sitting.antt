@@ -1,4 +1,5 @@
--- A tree in the pool, page by page: what the words of its root's page say, and that each child sits there too. A sound pool's tree sits in it.
+-- A tree in the pool, page by page: what the words of its root's page say, and that each child sits there too. A sound
+-- pool's tree sits in it.
 -- Assumes nothing.
 use mathlib.Core.Path.{_≡_, refl, ap}
 use mathlib.Core.List.{List}

@@ -1,5 +1,5 @@
--- Where the entry beside a path's gap stands: the deepest page of the path that has one at its slot. Code looks for it from the path's end, the tree has
--- it from the root; on a tree that sits in the pool the two agree.
+-- Where the entry beside a path's gap stands: the deepest page of the path that has one at its slot. Code looks for it
+-- from the path's end, the tree has it from the root; on a tree that sits in the pool the two agree.
 -- Assumes nothing.
 use mathlib.Core.Path.{_≡_, refl, sym, ap, ap₂, _∙_}
 use mathlib.Core.Bool.{true, false, cond}

@@ -1,5 +1,6 @@
--- A step along a path, page by page: where the child has an entry over its gap, that is the page's too and the page's slot stays; where the child is at its
--- end, it is the page's own entry, and the path goes on at the near end of the child behind that. Both directions go by the same laws.
+-- A step along a path, page by page: where the child has an entry over its gap, that is the page's too and the page's
+-- slot stays; where the child is at its end, it is the page's own entry, and the path goes on at the near end of the
+-- child behind that. Both directions go by the same laws.
 -- Assumes nothing.
 use mathlib.Core.Path.{_≡_, refl, sym, ap, _∙_}
 use mathlib.Core.Option.{Option, none, some}

@@ -1,5 +1,5 @@
--- A step at one page: the rest of the path goes down from one of its children, over one of its own entries. And a step along a path, from the leaf
--- upward: the first page that has an entry there answers for all above it.
+-- A step at one page: the rest of the path goes down from one of its children, over one of its own entries. And a step
+-- along a path, from the leaf upward: the first page that has an entry there answers for all above it.
 -- Assumes nothing.
 use mathlib.Core.Path.{_≡_, refl, sym, ap, _∙_}
 use mathlib.Core.Bool.{Bool, true, false}

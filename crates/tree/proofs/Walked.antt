@@ -1,5 +1,5 @@
--- What check's walk finds, on any words: it goes through exactly where each page below stands right and the entries met can follow one another, and has then
--- met all of these pages and entries.
+-- What check's walk finds, on any words: it goes through exactly where each page below stands right and the entries met
+-- can follow one another, and has then met all of these pages and entries.
 -- Assumes nothing.
 use mathlib.Core.Path.{_≡_, refl, sym, ap, subst}
 use mathlib.Core.Bool.{true}

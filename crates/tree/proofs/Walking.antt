@@ -1,5 +1,5 @@
--- The loop of check's walk over the children and entries of one page: what is left of it gives the whole walk; and how many pages and entries it has met,
--- on any words.
+-- The loop of check's walk over the children and entries of one page: what is left of it gives the whole walk; and how
+-- many pages and entries it has met, on any words.
 -- Assumes nothing.
 use mathlib.Core.Path.{_≡_, refl, sym, ap, subst, _∙_}
 use mathlib.Core.Bool.{true, false}

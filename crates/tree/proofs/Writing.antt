@@ -1,5 +1,5 @@
--- An entry overwritten where it stands: the entry at the spot of g is entry g, and the tree with another entry in its place stands in the pages once that
--- page alone has changed, and there the slot alone.
+-- An entry overwritten where it stands: the entry at the spot of g is entry g, and the tree with another entry in its
+-- place stands in the pages once that page alone has changed, and there the slot alone.
 -- Assumes nothing.
 use mathlib.Core.Path.{_≡_, refl, sym, ap, _∙_}
 use mathlib.Core.Logic.{_≢_}
@@ -29,7 +29,7 @@ use Rattle.tree.specs.declared.steps.Spot.the-variants as spot
 use Rattle.tree.specs.Steps.{spotOf}
 use Rattle.tree.specs.Write.{Writes}
 use Rattle.model.proofs.Cases.{either-lt, same-self, same-eq, either-eq, never}
-use Rattle.model.proofs.Lists.{all-at}
+use Rattle.model.proofs.Lists.{all-at, front-word}
 use Rattle.model.proofs.Sums.{sum-at}
 use Rattle.model.proofs.Gap.{way-down, child-shaped, located-below, located-here}
 use Rattle.model.proofs.Write.{located-own, write-held, write-meets}
@@ -39,7 +39,7 @@ use Rattle.model.proofs.Right.{Right, sound-right}
 use Rattle.model.proofs.Written.{sound-written}
 use Rattle.page.proofs.Pages.{holds-at}
 use Rattle.lend.proofs.Lent.{own-at}
-use Rattle.lend.proofs.Touching.{only-map, front-word}
+use Rattle.lend.proofs.Touching.{only-map}
 use Rattle.tree.proofs.Spots.{spot-some, spot-end}
 use Rattle.tree.proofs.Leaving.{Leaves, leaves-written, head-word, key-stays, written-bits, written-stands, written-formed}
 

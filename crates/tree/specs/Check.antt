@@ -1,5 +1,6 @@
--- Check walks the tree once, in key order, on any words: each page met is taken, has the height of its level and the right number of entries; keys rise over the
--- whole walk, so that no page is met twice; no more pages are met than there are. What the walk carries: pages and entries met, and the last key.
+-- Check walks the tree once, in key order, on any words: each page met is taken, has the height of its level and the
+-- right number of entries; keys rise over the whole walk, so that no page is met twice; no more pages are met than
+-- there are. What the walk carries: pages and entries met, and the last key.
 -- Assumes nothing: these are definitions.
 use mathlib.Core.Path.{_≡_}
 use mathlib.Core.Bool.{Bool, true, cond}

@@ -1,4 +1,5 @@
--- Insertion along a path: the pages it needs, what a page hands up, and the pool after. Fresh pages are the free ones, lowest first.
+-- Insertion along a path: the pages it needs, what a page hands up, and the pool after. Fresh pages are the free ones,
+-- lowest first.
 -- Assumes nothing: these are definitions.
 use mathlib.Core.Path.{_≡_}
 use mathlib.Core.Bool.{Bool, true, false}

@@ -1,4 +1,5 @@
--- Removal along a path: the entry after the path's gap goes, pages left with three are mended, upward, and a root left without entries is freed.
+-- Removal along a path: the entry after the path's gap goes, pages left with three are mended, upward, and a root left
+-- without entries is freed.
 -- Assumes nothing: these are definitions.
 use mathlib.Core.Path.{_≡_}
 use mathlib.Core.Bool.{Bool, true, false, cond}
@@ -56,7 +57,8 @@ planBy count (mending.Join j) = join j
 abbrev pub Plans : List ℕ → ℕ → ℕ → Mending → Type 0
 Plans w u i r = planBy (countBelow w u) r ≡ plan least (countOf (pageIn w u)) (countBelow w u) i
 
--- one entry goes through page u between its children j and j + 1, which are cut again behind n; `ok` is asked of the two pages
+-- one entry goes through page u between its children j and j + 1, which are cut again behind n; `ok` is asked of the
+-- two pages
 pub record MovesBelow (u j : ℕ) (n : ℕ → ℕ) (ok : ℕ → ℕ → Bool) (w w′ : List ℕ) : Type 0 where
   pub long : length w′ ≡ length w
   pub front : take (firstWord today 0) w′ ≡ take (firstWord today 0) w
@@ -99,7 +101,8 @@ pub record Mends (u i : ℕ) (w w′ : List ℕ) : Type 0 where
 
 -- ---- one page
 
--- what is handed up: where the gap is the end of the entries, the last of them is to stand in the place of the one after it
+-- what is handed up: where the gap is the end of the entries, the last of them is to stand in the place of the one
+-- after it
 abbrev pub goneBy : List Entry → ℕ → Gone
 goneBy es g = cond (leb (length es) g) (gone.Last (final noEntry es .key) (final noEntry es .value)) gone.Taken
 

@@ -1,5 +1,6 @@
--- Search: what a page says of a key, which child is followed, and what a search answers. Reads are tested as they are read: a child's number lies
--- inside the pool, a page's count is 1 to 9, its height is the one that its level asks; anything else is `Unsound`.
+-- Search: what a page says of a key, which child is followed, and what a search answers. Reads are tested as they are
+-- read: a child's number lies inside the pool, a page's count is 1 to 9, its height is the one that its level asks;
+-- anything else is `Unsound`.
 -- Assumes nothing: these are definitions.
 use mathlib.Core.Path.{_≡_}
 use mathlib.Core.Bool.{Bool, true, false, cond}

@@ -1,4 +1,5 @@
--- What the tree's functions are asked and given about a pool: a path of pages inside it, and the tree that stands in it.
+-- What the tree's functions are asked and given about a pool: a path of pages inside it, and the tree that stands in
+-- it.
 -- Assumes nothing: these are definitions.
 use mathlib.Core.Path.{_≡_}
 use mathlib.Core.List.{List}

@@ -1,4 +1,5 @@
--- Steps along a path: where the entry after the path's gap stands, and the one before it; and the path once the gap has gone over one of them.
+-- Steps along a path: where the entry after the path's gap stands, and the one before it; and the path once the gap has
+-- gone over one of them.
 -- Assumes nothing: these are definitions.
 use mathlib.Core.Path.{_≡_}
 use mathlib.Core.Bool.{Bool, true, cond}

@@ -1,5 +1,6 @@
-// Check: whether a pool is sound, on any words of any length. One walk in key order, by recursion over the remaining height, which falls; it stops at the first fault, and meets at
-// most P pages. Keys that rise over the whole walk meet no page twice, so no list of pages is kept: each page met is taken, and they are as many as the map's ones.
+// Check: whether a pool is sound, on any words of any length. One walk in key order, by recursion over the remaining
+// height, which falls; it stops at the first fault, and meets at most P pages. Keys that rise over the whole walk meet
+// no page twice, so no list of pages is kept: each page met is taken, and they are as many as the map's ones.
 ghost use mathlib.Core.Path.{_≡_};
 ghost use mathlib.Core.Bool.{true};
 ghost use Prim.Native.Nat.{_*_, _≤_};
@@ -33,8 +34,8 @@ pub enum Tally {
     Broken,
 }
 
-// Whether page `p`, met after `pages` others, can be one of the pool's: there are more pages than those, it is taken, has height `h` and holds `low` to
-// nine entries.
+// Whether page `p`, met after `pages` others, can be one of the pool's: there are more pages than those, it is taken,
+// has height `h` and holds `low` to nine entries.
 fn stands(pool: &[u64], p: usize, h: usize, low: usize, pages: usize) -> bool
     requires { ⌜ (firstWord today 0 ≤ length (now pool)) × Inside p (now pool) ⌝ }
     ensures { λ r. ⌜ r ≡ every (standTests (now (pool .entry)) p h low pages) ⌝ }

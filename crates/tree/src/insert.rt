@@ -1,5 +1,5 @@
-// Insertion along a path, at its gap. The pages it needs are counted first, from the leaf upward, and free pages only where one is needed. Then the new entry goes into the
-// leaf, and what a page hands up goes into the page above it.
+// Insertion along a path, at its gap. The pages it needs are counted first, from the leaf upward, and free pages only
+// where one is needed. Then the new entry goes into the leaf, and what a page hands up goes into the page above it.
 ghost use mathlib.Core.Path.{_≡_};
 ghost use mathlib.Core.Bool.{true};
 ghost use Prim.Native.Nat.{_≤_};
@@ -61,7 +61,8 @@ fn needed(pool: &[u64], pages: &[usize]) -> usize
     k
 }
 
-// An entry, and the child behind it, put into page `p`. A full page keeps the first five, and the lowest free page gets the last four.
+// An entry, and the child behind it, put into page `p`. A full page keeps the first five, and the lowest free page gets
+// the last four.
 fn put(pool: &mut [u64], p: usize, slot: usize, key: u64, value: u64, child: u64) -> Up
     requires { ⌜ Sized (now pool) × Inside p (now pool) × (slot ≤ most) ⌝ }
     ensures { λ r. ⌜ Puts p slot (entry key value) child (now (pool .entry)) (now (pool .exit)) r ⌝ }

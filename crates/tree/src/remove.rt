@@ -1,5 +1,6 @@
-// Removal along a path: the entry after its gap goes. All pages that will be read are looked at before the first store. An entry of an upper page is replaced by the
-// greatest below its left child, which comes up from the leaf; pages left with three are mended, from the leaf upward.
+// Removal along a path: the entry after its gap goes. All pages that will be read are looked at before the first store.
+// An entry of an upper page is replaced by the greatest below its left child, which comes up from the leaf; pages left
+// with three are mended, from the leaf upward.
 ghost use mathlib.Core.Path.{_≡_};
 ghost use mathlib.Core.Bool.{true};
 ghost use mathlib.Core.List.{[], _∷_};
@@ -31,7 +32,8 @@ pub enum Gone {
     Last(u64, u64),
 }
 
-// How a page left with three is mended, by neighbours j and j + 1: the left one gives an entry, the right one does, or they join.
+// How a page left with three is mended, by neighbours j and j + 1: the left one gives an entry, the right one does, or
+// they join.
 pub enum Mending {
     Keep,
     Left(usize),
@@ -175,7 +177,8 @@ fn inherit(pool: &mut [u64], p: usize, s: usize, gone: Gone) -> Gone
     Gone::Last(k, v)
 }
 
-// From the leaf upward: the entry goes there, and each page above takes in what comes up and mends its child on the path.
+// From the leaf upward: the entry goes there, and each page above takes in what comes up and mends its child on the
+// path.
 // A page that hands nothing up, and whose child has enough, is the last: no page above it changes.
 fn remove_along(pool: &mut [u64], pages: &[usize], slots: &[usize]) -> Gone
     requires { ⌜ (firstWord today 0 ≤ length (now pool)) × (1 ≤ length (now pages)) ⌝ }

@@ -1,5 +1,6 @@
-// Search, by key to its value and the pages read, and by key or bound to the path of its gap. Each page is tested as it is read: its number lies inside the pool, its
-// count is 1 to 9, its height is the one that its level asks. Anything else is `Unsound`, and nothing has been stored.
+// Search, by key to its value and the pages read, and by key or bound to the path of its gap. Each page is tested as it
+// is read: its number lies inside the pool, its count is 1 to 9, its height is the one that its level asks. Anything
+// else is `Unsound`, and nothing has been stored.
 ghost use mathlib.Core.Path.{_≡_};
 ghost use mathlib.Core.Bool.{true, false};
 ghost use Prim.Native.Nat.{_+_, _≤_, _<_};

@@ -1,5 +1,6 @@
-// Steps along a path: where the entry after the path's gap stands, and the one before it; and the gap moved over one of them, with the entry as the answer. A step reads the
-// pages that the new path has and the old one had not: a whole list costs one descent and about two links a page.
+// Steps along a path: where the entry after the path's gap stands, and the one before it; and the gap moved over one of
+// them, with the entry as the answer. A step reads the pages that the new path has and the old one had not: a whole
+// list costs one descent and about two links a page.
 ghost use mathlib.Core.Path.{_≡_};
 ghost use Prim.Native.Nat.{suc, _≤_};
 ghost use lib.ListN.{length};
@@ -109,7 +110,8 @@ fn over(
     Step::Unsound
 }
 
-// The entry after the path's gap, and the path of the gap after it. From the leaf upward: the first page with an entry at its slot has it.
+// The entry after the path's gap, and the path of the gap after it. From the leaf upward: the first page with an entry
+// at its slot has it.
 pub fn next(pool: &[u64], pages: &mut [usize], slots: &mut [usize]) -> Step
     requires { ⌜ firstWord today 0 ≤ length (now pool) ⌝ }
     requires { ⌜ PathIn (now pool) (now pages) (now slots) ⌝ }
@@ -132,7 +134,8 @@ pub fn next(pool: &[u64], pages: &mut [usize], slots: &mut [usize]) -> Step
     Step::End
 }
 
-// The entry before the path's gap, and the path of the gap before it. From the leaf upward: the first page with an entry before its slot has it.
+// The entry before the path's gap, and the path of the gap before it. From the leaf upward: the first page with an
+// entry before its slot has it.
 pub fn prev(pool: &[u64], pages: &mut [usize], slots: &mut [usize]) -> Step
     requires { ⌜ firstWord today 0 ≤ length (now pool) ⌝ }
     requires { ⌜ PathIn (now pool) (now pages) (now slots) ⌝ }

@@ -1,4 +1,5 @@
--- `bits::take_lowest` meets its contract: the map is lent and given back with the lowest free page taken. Assumes nothing.
+-- `bits::take_lowest` meets its contract: the map is lent and given back with the lowest free page taken.
+-- Assumes nothing.
 use borrow.Author.Needs.{needs}
 use Rattle.model.specs.PageMap.{mapAt}
 use Rattle.lend.proofs.Touching.{map-back}

@@ -1,4 +1,5 @@
--- `head::numbers` meets its contract: a test that fails decides, and where all the others hold the last one does. Assumes nothing.
+-- `head::numbers` meets its contract: a test that fails decides, and where all the others hold the last one does.
+-- Assumes nothing.
 use mathlib.Core.Path.{sym, _∙_}
 use mathlib.Core.List.{[], _∷_}
 use native.Mathlib.Omega.{arith}

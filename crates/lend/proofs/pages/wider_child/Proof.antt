@@ -1,4 +1,5 @@
--- `pages::wider_child` meets its contract: what `page::wider_child` says of the page, said of the pool. Assumes nothing.
+-- `pages::wider_child` meets its contract: what `page::wider_child` says of the page, said of the pool.
+-- Assumes nothing.
 use native.Mathlib.Numerals.{add-one}
 use native.Mathlib.Omega.{arith}
 use borrow.Author.Needs.{needs}

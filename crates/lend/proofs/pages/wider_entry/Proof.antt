@@ -1,4 +1,5 @@
--- `pages::wider_entry` meets its contract: what `page::wider_entry` says of the page, said of the pool. Assumes nothing.
+-- `pages::wider_entry` meets its contract: what `page::wider_entry` says of the page, said of the pool.
+-- Assumes nothing.
 use native.Mathlib.Omega.{arith}
 use borrow.Author.Needs.{needs}
 use Rattle.lend.specs.Pages.{most, pageIn}

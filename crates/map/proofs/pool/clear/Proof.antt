@@ -1,4 +1,5 @@
--- `pool::clear` meets its contract: each refusal by the tests that led there, and else the pool that is laid, of the kind that it had. Assumes nothing.
+-- `pool::clear` meets its contract: each refusal by the tests that led there, and else the pool that is laid, of the
+-- kind that it had. Assumes nothing.
 use mathlib.Core.Path.{_≡_, sym, _∙_}
 use mathlib.Core.Bool.{true, false}
 use native.Mathlib.Omega.{arith}

@@ -1,4 +1,5 @@
--- `pool::copy` meets its contract: each refusal by the tests that led there, and else the source's words with 5 to 7 made 0. Assumes nothing.
+-- `pool::copy` meets its contract: each refusal by the tests that led there, and else the source's words with 5 to 7
+-- made 0. Assumes nothing.
 use mathlib.Core.Path.{_≡_, sym, ap, _∙_}
 use mathlib.Core.Bool.{true, false}
 use mathlib.Core.Logic.{⊎-elim}

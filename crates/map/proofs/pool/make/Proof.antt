@@ -1,4 +1,5 @@
--- `pool::make` meets its contract: each refusal by the tests that led there, and else the pool that is laid. Assumes nothing.
+-- `pool::make` meets its contract: each refusal by the tests that led there, and else the pool that is laid.
+-- Assumes nothing.
 use mathlib.Core.Path.{_≡_, sym, _∙_}
 use mathlib.Core.Bool.{true, false}
 use Prim.Native.Nat.{_≤_}

@@ -1,4 +1,5 @@
--- `check::walk` meets its contract. The function's measure is the height, the loop's what is left of the children; the loop's content is in `Walking`.
+-- `check::walk` meets its contract. The function's measure is the height, the loop's what is left of the children; the
+-- loop's content is in `Walking`.
 -- Assumes nothing.
 use mathlib.Core.Path.{_≡_, sym, subst, _∙_}
 use mathlib.Core.Bool.{true}

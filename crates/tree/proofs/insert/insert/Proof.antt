@@ -1,5 +1,5 @@
--- `insert::insert` meets its contract: the pages needed are counted, and where they are there the entry goes in along the path, a new root is made where
--- the old one split, and the count is one more. Assumes nothing.
+-- `insert::insert` meets its contract: the pages needed are counted, and where they are there the entry goes in along
+-- the path, a new root is made where the old one split, and the count is one more. Assumes nothing.
 use mathlib.Core.Path.{_≡_, sym, _∙_}
 use mathlib.Core.Logic.{⊎-elim}
 use Prim.Native.Nat.{_*_, _≤_}
@@ -12,8 +12,8 @@ use Rattle.model.specs.Head.{geometryOf}
 use Rattle.lend.specs.Touches.{Sized}
 use Rattle.lend.specs.Pages.{least}
 use Rattle.tree.specs.Insert.{freesIn}
+use Rattle.model.proofs.Lists.{front-word}
 use Rattle.model.proofs.Head.{head-facts}
-use Rattle.lend.proofs.Touching.{front-word}
 use Rattle.lend.proofs.Fitting.{headed-sized}
 use Rattle.tree.proofs.Inserting.{Topped, topped-long, topped-count, inserts-full, inserts-done}
 use Rattle.tree.proofs.insert.insert.Statement.{statement}

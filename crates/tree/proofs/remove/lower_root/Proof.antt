@@ -1,4 +1,5 @@
--- `remove::lower_root` meets its contract: a root without entries is freed, and words 3 and 4 name its one child, or no page. Assumes nothing.
+-- `remove::lower_root` meets its contract: a root without entries is freed, and words 3 and 4 name its one child, or no
+-- page. Assumes nothing.
 use mathlib.Core.Path.{_≡_, refl, sym, ap, _∙_}
 use Prim.Native.Nat.{suc, _+_, _-_}
 use native.Mathlib.Numerals.{add-one}

@@ -1,5 +1,5 @@
--- `remove::remove` meets its contract: where all that it reads is sound, the entry after the path's gap goes, a root left without entries gives way, and
--- the count is one less. Assumes nothing.
+-- `remove::remove` meets its contract: where all that it reads is sound, the entry after the path's gap goes, a root
+-- left without entries gives way, and the count is one less. Assumes nothing.
 use mathlib.Core.Path.{_≡_, _∙_}
 use Prim.Native.Nat.{_≤_}
 use native.Mathlib.Omega.{arith}
@@ -10,9 +10,8 @@ use Rattle.model.specs.Layout.{headWords, firstWord, word, today}
 use Rattle.model.specs.Head.{geometryOf}
 use Rattle.lend.specs.Pages.{Inside}
 use Rattle.lend.specs.Touches.{Sized}
-use Rattle.model.proofs.Lists.{all-at}
+use Rattle.model.proofs.Lists.{all-at, front-word}
 use Rattle.model.proofs.Head.{head-facts}
-use Rattle.lend.proofs.Touching.{front-word}
 use Rattle.lend.proofs.Fitting.{headed-sized}
 use Rattle.tree.proofs.Removing.{levels-some, count-some, removes-none, removes-refused, removes-done}
 use Rattle.tree.proofs.remove.remove.Statement.{statement}

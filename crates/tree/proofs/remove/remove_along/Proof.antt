@@ -1,4 +1,5 @@
--- `remove::remove_along` meets its contract: at each place of the path, what is done is what a removal below that place does; where it stops, nothing is left to do above.
+-- `remove::remove_along` meets its contract: at each place of the path, what is done is what a removal below that place
+-- does; where it stops, nothing is left to do above.
 -- Assumes nothing.
 use mathlib.Core.Path.{_≡_, refl, subst, _∙_}
 use mathlib.Core.List.{List}
