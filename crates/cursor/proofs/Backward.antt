@@ -11,7 +11,7 @@ use Prim.Native.Nat.{ℕ}
 use native.Mathlib.Omega.{arith}
 use lib.ListN.{length, getD}
 use denote.Enum.Declared.{tagOf}
-use Rattle.model.specs.Head.{afterWord, keyWord, headed}
+use Rattle.model.specs.Head.{levelsWord, afterWord, keyWord, headed}
 use Rattle.model.specs.Tree.{entry, noEntry, held}
 use Rattle.model.specs.Page.{entryIn}
 use Rattle.model.specs.Pool.{heldBy, poolOf}
@@ -26,15 +26,15 @@ use Rattle.tree.specs.declared.search.Got.{Got}
 use Rattle.tree.specs.declared.search.Got.the-variants as got
 use Rattle.tree.specs.declared.steps.Spot.{Spot}
 use Rattle.tree.specs.Sits.{PathOf}
-use Rattle.tree.specs.Search.{Gets}
+use Rattle.tree.specs.Search.{Gets, ReadFew}
 use Rattle.tree.specs.Steps.{SpotBefore}
 use Rattle.tree.specs.Write.{Writes}
 use Rattle.map.specs.declared.entry.Sought.{Sought}
 use Rattle.map.specs.declared.entry.Sought.the-variants as sought
-use Rattle.map.specs.Entry.{Finds, Seeks}
+use Rattle.map.specs.Entry.{Finds, SeeksKey}
 use Rattle.cursor.specs.Gap.{restWords}
 use Rattle.model.proofs.Cases.{contrary, other-tag}
-use Rattle.model.proofs.Lists.{next-some}
+use Rattle.model.proofs.Basics.{next-some}
 use Rattle.model.proofs.Head.{head-facts}
 use Rattle.model.proofs.Entries.{lookup-at}
 use Rattle.model.proofs.Right.{sound-right}
@@ -119,7 +119,7 @@ module _ {w : List ℕ} (pass : 0 ≡ refusal (cursorTests w)) where
     peek-prev-lost gets others = meets-unsound (λ w p. (refl, refl)) (keeps-reads cursorTests prevOf) pass (refl, λ s. other-tag (got-tag gets s) others)
 
     pub prev-back : {ps ss ps′ ss′ v : List ℕ} {r : Sought} {p i key x : ℕ} {behind : Spot}
-        → Seeks w (keyWord w) ps ss ps′ ss′ r → r ≡ sought.Here p i → entry key x ≡ entryIn most (pageIn w p) i → SpotBefore w ps′ ss′ behind → v ≡ restWords behind w
+        → SeeksKey w (keyWord w) ps ss ps′ ss′ r → r ≡ sought.Here p i → entry key x ≡ entryIn most (pageIn w p) i → SpotBefore w ps′ ss′ behind → v ≡ restWords behind w
         → Meets cursorPrev w v (answered (some (entry (keyWord w) x)))
     unfolding held
     prev-back {ps′ = ps′} {ss′ = ss′} {p = p} {i = i} {key = key} {x = x} {behind = behind} seeks e read before rested =
@@ -139,7 +139,8 @@ module _ {w : List ℕ} (pass : 0 ≡ refusal (cursorTests w)) where
           still = λ z. contrary z (rw is);
         })
 
-    pub peek-prev-value : {r : Got} {x m : ℕ} → Gets w (keyWord w) r → r ≡ got.Value x m → Meets cursorPeekPrev w w (answered (some (entry (keyWord w) x)))
+    pub peek-prev-value : {r : Got} {x m : ℕ} → Gets w (keyWord w) r × ReadFew (levelsWord w) r → r ≡ got.Value x m
+        → Meets cursorPeekPrev w w (answered (some (entry (keyWord w) x)))
     peek-prev-value gets e = meets-read cursorTests prevOf (λ w p. (refl, refl)) pass (λ s. sym (prev-some w s (named s .1) (gets-value (keyWord w) w gets e s .0)))
 
     pub write-prev-over : {r : Sought} {p i x old : ℕ} {v : List ℕ} → Finds w (keyWord w) r → r ≡ sought.Here p i → Writes p i x w v old

@@ -6,19 +6,20 @@ use mathlib.Core.Path.{_≡_, refl, sym, ap, _∙_}
 use mathlib.Core.Bool.{true, false}
 use mathlib.Core.Logic.{inr}
 use mathlib.Core.Option.{none, some}
-use mathlib.Core.List.{List}
-use Prim.Native.Nat.{ℕ}
+use mathlib.Core.List.{List, [], _∷_, _++_}
+use Prim.Native.Nat.{ℕ, zero, suc, _+_, _≤_}
 use native.Mathlib.Omega.{arith}
-use lib.ListN.{length, length-set}
+use lib.ListN.{length, take, drop, set}
 use Rattle.model.specs.Tree.{entry}
 use Rattle.model.specs.Page.{entryIn}
-use Rattle.model.specs.Entries.{shut, keyFits}
+use Rattle.model.specs.Entries.{keyFits}
 use Rattle.model.specs.Pool.{heldBy, poolOf, gapBy}
 use Rattle.model.specs.Sound.{Sound}
 use Rattle.model.specs.Refusal.{refusal}
 use Rattle.model.specs.Call.{refused, answered, Meets}
+use Rattle.model.specs.PoolCalls.{cursorless}
 use Rattle.model.specs.MapCalls.{crowded}
-use Rattle.model.specs.CursorCalls.{missing, cursorTests, cursorInsertAfter, cursorRemoveNext, cursorClose}
+use Rattle.model.specs.CursorCalls.{missing, cursorTests, cursorInsertAfter, cursorRemoveNext}
 use Rattle.page.specs.declared.Change.{Change}
 use Rattle.page.specs.declared.Change.the-variants as change
 use Rattle.lend.specs.Pages.{most, pageIn}
@@ -32,10 +33,9 @@ use Rattle.cursor.specs.Gap.{gapWords}
 use Rattle.cursor.specs.Ahead.{SeeksAhead, fitsAt}
 use Rattle.model.proofs.Cases.{either, contrary, never}
 use Rattle.model.proofs.Right.{sound-right}
-use Rattle.model.proofs.Keeps.{keeps-insert-after, keeps-remove-next, keeps-close}
+use Rattle.model.proofs.Keeps.{keeps-insert-after, keeps-remove-next}
 use Rattle.model.proofs.Written.{sound-written}
 use Rattle.model.proofs.Meets.{meets-answered, meets-stopped, meets-unsound}
-use Rattle.cursor.proofs.Gaps.{gap-written}
 use Rattle.cursor.proofs.Nexts.{Next, ahead-entry, ahead-end, ahead-fits}
 
 -- ---- insert after
@@ -101,9 +101,16 @@ module _ {w ps ss ps′ ss′ : List ℕ} {r : Ahead} (pass : 0 ≡ refusal (cur
         meets-unsound (λ w p. (refl, refl)) keeps-remove-next pass
         (removes .kept lost, λ s. never (cc (removes .sound (gapBy (poolOf w)) s (next s .there) (seeks .path s))))
 
--- ---- close
+-- ---- close: words 5 to 7 become 0, one after the other
 
-pub closes : {w w′ : List ℕ} → 0 ≡ refusal (cursorTests w) → w′ ≡ gapWords 0 0 0 w → Meets cursorClose w w′ (answered tt)
-closes {w} {w′} pass laid =
-    meets-answered (λ w p. (refl, refl)) keeps-close pass (ap length laid ∙ simp length-set)
-    (λ s. record { passes = refl; answers = refl; holds = rw laid (gap-written w (poolOf w) shut (sound-written w s)); still = λ z. contrary z refl })
+cleared : (n : ℕ) (w : List ℕ) → n + 3 ≤ length w
+    → set (set (set w n 0) (suc n) 0) (suc (suc n)) 0 ≡ take n w ++ (0 ∷ 0 ∷ 0 ∷ drop (suc (suc (suc n))) w)
+cleared n [] long = absurd (omega arith)
+cleared zero (x ∷ []) long = absurd (omega arith)
+cleared zero (x ∷ y ∷ []) long = absurd (omega arith)
+cleared zero (x ∷ y ∷ z ∷ w) long = refl
+cleared (suc n) (x ∷ w) long = ap (λ (l : List ℕ). x ∷ l) (cleared n w (omega arith))
+
+pub gap-cleared : (w : List ℕ) → 8 ≤ length w → gapWords 0 0 0 w ≡ cursorless w
+unfolding cursorless
+gap-cleared w long = cleared 5 w (omega arith)

@@ -21,7 +21,7 @@ use Rattle.cursor.specs.declared.ahead.Ahead.the-variants as ahead
 use Rattle.cursor.specs.Ahead.{FindsAhead}
 use Rattle.cursor.specs.Gap.{gapWords}
 use Rattle.model.proofs.Cases.{contrary}
-use Rattle.model.proofs.Lists.{next-some}
+use Rattle.model.proofs.Basics.{next-some}
 use Rattle.model.proofs.Keeps.{keeps-next, keeps-write-next}
 use Rattle.model.proofs.Meets.{meets-answered, meets-read}
 use Rattle.model.proofs.Written.{sound-written}

@@ -10,7 +10,7 @@ use Prim.Native.Nat.{ℕ, _<_}
 use native.Mathlib.Omega.{arith}
 use lib.ListN.{length, getD}
 use borrow.Author.Tests.{eq-eqb, ne-eqb}
-use Rattle.model.specs.Lists.{every}
+use Rattle.model.specs.Basics.{every}
 use Rattle.model.specs.Head.{openWord, afterWord}
 use Rattle.model.specs.Tree.{noEntry, held}
 use Rattle.model.specs.Page.{entryIn}
@@ -31,7 +31,7 @@ use Rattle.cursor.specs.Ahead.{spotAhead, aheadOf, FindsAhead, SeeksAhea
 use Rattle.cursor.specs.Gap.{aimOf}
 use Rattle.model.proofs.Cases.{either-eq, never}
 use Rattle.model.proofs.Head.{head-facts}
-use Rattle.model.proofs.Lists.{next-some, next-none}
+use Rattle.model.proofs.Basics.{next-some, next-none}
 use Rattle.model.proofs.Right.{Right, sound-right}
 use Rattle.tree.proofs.Sitting.{sound-sits}
 use Rattle.tree.proofs.Writing.{spot-there, spot-past}

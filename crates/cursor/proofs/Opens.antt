@@ -1,11 +1,11 @@
--- Laws of opening: the gap that a search finds, or the start itself, is the one that is laid; a bound's early refusals are document 01's; and so opening at the gap of a bound is document 01's
--- call.
+-- Laws of opening: the gap that a search finds, or the start itself, is the one that is laid; a bound's early refusals
+-- are document 01's; and so opening at the gap of a bound is document 01's call.
 -- Assumes nothing.
 use mathlib.Core.Path.{_≡_, refl, sym, ap, subst, _∙_}
 use mathlib.Core.Bool.{Bool, false, cond}
 use mathlib.Core.Logic.{_≢_, _⊎_, ⊎-elim}
 use mathlib.Core.List.{List}
-use Prim.Native.Nat.{ℕ, zero, suc}
+use Prim.Native.Nat.{ℕ, zero, suc, _≤_}
 use native.Mathlib.Omega.{arith}
 use denote.Enum.Declared.{tagOf}
 use lib.Dec.{eqb}
@@ -18,7 +18,7 @@ use Rattle.model.specs.Entries.{gap, gapOf}
 use Rattle.model.specs.Pool.{heldBy, poolOf, wholeOf, withCursor}
 use Rattle.model.specs.Written.{Written}
 use Rattle.model.specs.Refusal.{refusal, mapKind, noBound}
-use Rattle.model.specs.Call.{Outcome, refused, Meets}
+use Rattle.model.specs.Call.{Outcome, refused, Meets, ReadsPages}
 use Rattle.model.specs.MapCalls.{readTests}
 use Rattle.model.specs.CursorCalls.{openTests, cursorOpenLower, cursorOpenUpper}
 use Rattle.tree.specs.declared.search.Aim.{Aim}
@@ -44,6 +44,7 @@ use Rattle.model.proofs.Calls.{open-right}
 use Rattle.model.proofs.Keeps.{Keeps, of-kind}
 use Rattle.model.proofs.Written.{sound-written}
 use Rattle.model.proofs.Meets.{meets-answered, meets-unsound, reading-first, reading-passed}
+use Rattle.model.proofs.Reading.{pages-told, pages-refused}
 use Rattle.tree.proofs.search.Aim.{the-type}
 use Rattle.tree.proofs.Sitting.{sound-sits}
 use Rattle.map.proofs.Answers.{number-some}
@@ -98,19 +99,28 @@ opens-start {w = w} start laid =
 
 -- ---- at the gap of a bound
 
+aim-few : (aim : Aim) (levels : ℕ) → aimRead aim levels ≤ levels
+aim-few (Before k) levels = omega arith
+aim-few (After k) levels = omega arith
+aim-few Start levels = omega arith
+aim-few End levels = omega arith
+
 module _ (kind : ℕ) (aim : Aim) where
   keeps-open : Keeps (opensAt kind aim)
   unfolding poolOf
   keeps-open w s e = open-right (poolOf w) (sound-right w s) (of-kind w mapKind _ e .1) (aimed aim)
 
-  meets-open : {w v : List ℕ} (r : Opened) → 0 ≡ refusal (openTests kind w) → Opens aim (aimRead aim (levelsWord w)) w v r → Meets (opensAt kind aim) w v (openedOf r)
+  pages-open : {w v : List ℕ} (r : Opened) → 0 ≡ refusal (openTests kind w) → Opens aim (aimRead aim (levelsWord w)) w v r
+      → ReadsPages (opensAt kind aim) (λ n. n) w v (openedOf r)
   unfolding poolOf wholeOf
-  meets-open (opened.Read n) pass opens =
+  pages-open {w} (opened.Read n) pass opens =
       let o = opens .opens n refl in
-      meets-answered (λ w p. (refl, refl)) keeps-open pass (opens .long) (λ s. record { passes = refl; answers = o .0; holds = o .1 s; still = λ z. contrary z refl })
-  meets-open {w} {v} (opened.Refused e) pass opens =
+      pages-told
+      (meets-answered (λ w p. (refl, refl)) keeps-open pass (opens .long) (λ s. record { passes = refl; answers = o .0; holds = o .1 s; still = λ z. contrary z refl }))
+      (omega (arith, o .0, aim-few aim (levelsWord w)))
+  pages-open {w} {v} (opened.Refused e) pass opens =
       let o = opens .refused e refl in
-      subst (λ (x : Refusal). Meets (opensAt kind aim) w v (refused (numberOf x))) (sym (o .0)) (meets-unsound (λ w p. (refl, refl)) keeps-open pass (o .1, o .2))
+      pages-refused (subst (λ (x : Refusal). Meets (opensAt kind aim) w v (refused (numberOf x))) (sym (o .0)) (meets-unsound (λ w p. (refl, refl)) keeps-open pass (o .1, o .2)))
 
 -- past the tests of a call that reads
 open-last : (kind : ℕ) (w : List ℕ) → 0 ≡ refusal (readTests mapKind w) → refusal (openTests kind w) ≡ cond (noBound kind) 3 (cond (eqb (openWord w) 1) 4 0)
@@ -118,34 +128,37 @@ open-last kind w pass = reading-passed mapKind w _ pass
 
 module _ {b : Bound} {w : List ℕ} where
   pub by-refused : (n : Refusal) → numberOf n ≡ refusal (readTests mapKind w) → OpensBy b w w (opened.Refused n)
-  by-refused n e kind aim said = meets-refused (opensAt kind aim) w n (λ w p. (refl, refl)) (reading-first mapKind w _ (numberOf n) (number-some n) e)
+  by-refused n e kind aim said =
+      pages-refused (meets-refused (opensAt kind aim) w n (λ w p. (refl, refl)) (reading-first mapKind w _ (numberOf n) (number-some n) e))
 
   module _ (pass : 0 ≡ refusal (readTests mapKind w)) where
     pub by-unknown : b ≡ bound.Unknown → OpensBy b w w (opened.Refused reason.BadBound)
     by-unknown is kind aim said =
-        meets-refused (opensAt kind aim) w reason.BadBound (λ w p. (refl, refl)) (sym (open-last kind w pass ∙ rw (bound-unknown kind aim said is)))
+        pages-refused (meets-refused (opensAt kind aim) w reason.BadBound (λ w p. (refl, refl)) (sym (open-last kind w pass ∙ rw (bound-unknown kind aim said is))))
 
     module _ {a : Aim} (is : b ≡ bound.At a) where
       pub by-opened : openWord w ≡ 1 → OpensBy b w w (opened.Refused reason.Opened)
       by-opened one kind aim said =
-          meets-refused (opensAt kind aim) w reason.Opened (λ w p. (refl, refl))
-          (sym (open-last kind w pass ∙ rw (bound-known kind aim said is .0, eq-eqb (openWord w) 1 one)))
+          pages-refused (meets-refused (opensAt kind aim) w reason.Opened (λ w p. (refl, refl))
+          (sym (open-last kind w pass ∙ rw (bound-known kind aim said is .0, eq-eqb (openWord w) 1 one))))
 
       pub by-at : {v : List ℕ} {r : Opened} → openWord w ≢ 1 → Opens a (aimRead a (levelsWord w)) w v r → OpensBy b w v r
       by-at {v} {r} shut opens kind aim said =
           let known = bound-known kind aim said is in
-          subst (λ (x : Aim). Meets (opensAt kind x) w v (openedOf r)) (sym (known .1))
-          (meets-open kind a r (sym (open-last kind w pass ∙ rw (known .0, ne-eqb (openWord w) 1 shut))) opens)
+          subst (λ (x : Aim). ReadsPages (opensAt kind x) (λ n. n) w v (openedOf r)) (sym (known .1))
+          (pages-open kind a r (sym (open-last kind w pass ∙ rw (known .0, ne-eqb (openWord w) 1 shut))) opens)
 
 -- ---- document 01's calls, bound by bound
 
 module _ {w v : List ℕ} {r : Outcome ℕ} where
-  pub lower-meets : (kind k : ℕ) → Meets (opensAt kind (lowerAim (boundOf kind k))) w v r → Meets (cursorOpenLower kind k) w v r
+  pub lower-meets : (kind k : ℕ) → ReadsPages (opensAt kind (lowerAim (boundOf kind k))) (λ n. n) w v r
+      → ReadsPages (cursorOpenLower kind k) (λ n. n) w v r
   lower-meets zero k m = m
   lower-meets (suc zero) k m = m
   lower-meets (suc (suc n)) k m = m
 
-  pub upper-meets : (kind k : ℕ) → Meets (opensAt kind (upperAim (boundOf kind k))) w v r → Meets (cursorOpenUpper kind k) w v r
+  pub upper-meets : (kind k : ℕ) → ReadsPages (opensAt kind (upperAim (boundOf kind k))) (λ n. n) w v r
+      → ReadsPages (cursorOpenUpper kind k) (λ n. n) w v r
   upper-meets zero k m = m
   upper-meets (suc zero) k m = m
   upper-meets (suc (suc n)) k m = m

@@ -1,5 +1,6 @@
--- Laws of playback: on a sound pool each next is again a next that the tests let pass, over the entry behind those already played; what playback has come to after i of them, which each turn
--- of the loop takes on and each way out turns into the promise.
+-- Laws of playback: on a sound pool each next is again a next that the tests let pass, over the entry behind those
+-- already played; what playback has come to after i of them, which each turn of the loop takes on and each way out
+-- turns into the promise.
 -- Assumes nothing.
 use mathlib.Core.Path.{_≡_, refl, sym, ap, _∙_}
 use mathlib.Core.Logic.{⊎-elim}
@@ -29,7 +30,7 @@ use Rattle.cursor.specs.declared.Step.{Step}
 use Rattle.cursor.specs.declared.Step.the-variants as step
 use Rattle.cursor.specs.Answers.{stepOf}
 use Rattle.model.specs.Playback.{Plays}
-use Rattle.cursor.specs.Playback.{Stops}
+use Rattle.cursor.specs.Playback.{PlayStops}
 use Rattle.model.proofs.Cases.{never, contrary}
 use Rattle.map.proofs.Answers.{number-some, nine-unsound}
 use Rattle.map.proofs.Listing.{laid-none, laid-entry, behind-some, behind-none}
@@ -172,7 +173,7 @@ module _ {n : ℕ} {w₀ ks₀ vs₀ w ks vs : List ℕ} {i : ℕ} (played : Pla
         (nine-unsound e (⊎-elim (λ n. n) (λ no. contrary no refl) (m .late (numberOf e) pass said)), m .kept (numberOf e) said ∙ first)
 
     -- there is no next entry
-    pub played-end : {a : Listed} → ((k v : ℕ) → r ≡ step.Entry k v → ⊥) → Stops r i a → Plays w₀ w′ (keyColumn ks₀ ks ∷ valueColumn vs₀ vs ∷ []) (listedOf a)
+    pub played-end : {a : Listed} → ((k v : ℕ) → r ≡ step.Entry k v → ⊥) → PlayStops r i a → Plays w₀ w′ (keyColumn ks₀ ks ∷ valueColumn vs₀ vs ∷ []) (listedOf a)
     played-end {a} other stop =
         played-wrote {a = a} (m .long)
         (λ e z.

@@ -7,7 +7,7 @@ use mathlib.Core.List.{List, [], _∷_}
 use Prim.Native.Nat.{ℕ, _<_}
 use lib.Dec.{eqb, ltb}
 use lib.ListN.{length}
-use Rattle.model.specs.Lists.{every}
+use Rattle.model.specs.Basics.{every}
 use Rattle.model.specs.Head.{afterWord, keyWord}
 use Rattle.model.specs.Page.{entryIn}
 use Rattle.model.specs.Pool.{poolOf, gapBy}

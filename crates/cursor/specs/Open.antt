@@ -1,8 +1,9 @@
--- Opening in code: at the gap of an aim, and at that of a bound. The start is known without a page; any other gap takes all levels.
+-- Opening in code: at the gap of an aim, and at that of a bound. The start is known without a page; any other gap takes
+-- all levels.
 -- Assumes nothing: these are definitions.
 use mathlib.Core.Path.{_≡_}
-use mathlib.Core.Bool.{cond, false}
-use mathlib.Core.List.{List, []}
+use mathlib.Core.Bool.{cond}
+use mathlib.Core.List.{List}
 use Prim.Native.Nat.{ℕ}
 use lib.ListN.{length}
 use Rattle.model.specs.Entries.{gapOf, gap}
@@ -10,8 +11,8 @@ use Rattle.model.specs.Pool.{heldBy, poolOf, withCursor}
 use Rattle.model.specs.Sound.{Sound}
 use Rattle.model.specs.Written.{Written}
 use Rattle.model.specs.Refusal.{noBound}
-use Rattle.model.specs.Call.{Call, Meets}
-use Rattle.model.specs.CursorCalls.{openTests}
+use Rattle.model.specs.Call.{Call, ReadsPages}
+use Rattle.model.specs.CursorCalls.{opens}
 use Rattle.tree.specs.declared.search.Aim.{Aim}
 use Rattle.tree.specs.declared.search.Aim.the-variants.{Before, After, Start, End}
 use Rattle.tree.specs.Search.{aimed}
@@ -38,13 +39,7 @@ pub record Opens (aim : Aim) (read : ℕ) (w w′ : List ℕ) (r : Opened) : Typ
 
 -- document 01's two calls, by what their bound names
 abbrev pub opensAt : ℕ → Aim → Call ℕ
-opensAt kind aim = record {
-  early = openTests kind;
-  late = λ p. [];
-  answer = λ p. aimRead aim (p .whole .levels);
-  after = λ p. withCursor p (gap (gapOf (aimed aim) (heldBy p)));
-  still = λ p. false;
-}
+opensAt kind aim = opens kind (aimed aim) (aimRead aim)
 
 abbrev pub OpensBy : Bound → List ℕ → List ℕ → Opened → Type 0
-OpensBy b w w′ r = (kind : ℕ) (aim : Aim) → b ≡ cond (noBound kind) bound.Unknown (bound.At aim) → Meets (opensAt kind aim) w w′ (openedOf r)
+OpensBy b w w′ r = (kind : ℕ) (aim : Aim) → b ≡ cond (noBound kind) bound.Unknown (bound.At aim) → ReadsPages (opensAt kind aim) (λ n. n) w w′ (openedOf r)

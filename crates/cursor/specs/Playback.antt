@@ -9,6 +9,6 @@ use Rattle.cursor.specs.declared.Step.{Step}
 use Rattle.cursor.specs.declared.Step.the-variants as step
 
 -- after n entries
-pub record Stops (s : Step) (n : ℕ) (r : Listed) : Type 0 where
+pub record PlayStops (s : Step) (n : ℕ) (r : Listed) : Type 0 where
   pub wrote : s ≡ step.End → r ≡ listed.Wrote n
   pub stops : (e : Refusal) → r ≡ listed.Refused e → (s ≡ step.Refused e) × (n ≡ 0)

@@ -1,12 +1,14 @@
-// The cursor: the calls of CursorMut on a map in a lent pool, whose head keeps the gap. Next and prev, the peeks, the writes and close stand here; opening is in `opening`, insert after and remove
-// next in `edit`, playback in `play`. Every call takes any words: it tests length, head, kind and cursor first, refuses in document 01's order, and a refusal has changed no word.
+// The cursor: the calls of CursorMut on a map in a lent pool, whose head keeps the gap. Next and prev, the peeks, the
+// writes and close stand here; opening is in `opening`, insert after and remove next in `edit`, playback in `play`.
+// Every call takes any words: it tests length, head, kind and cursor first, refuses in document 01's order, and a
+// refusal has changed no word.
 ghost use mathlib.Core.Path.{_≡_};
 ghost use mathlib.Core.Bool.{true};
 ghost use lib.ListN.{length};
 ghost use Rattle.model.specs.Head.{levelsWord, afterWord, headed};
 ghost use Rattle.model.specs.Refusal.{refusal};
 ghost use Rattle.model.specs.Call.{Meets};
-ghost use Rattle.model.specs.CursorCalls.{cursorTests, cursorNext, cursorPrev, cursorPeekNext, cursorPeekPrev, cursorWriteNext, cursorWritePrev, cursorClose};
+ghost use Rattle.model.specs.CursorCalls.{cursorTests, cursorNext, cursorPrev, cursorPeekNext, cursorPeekPrev, cursorWriteNext, cursorWritePrev, Closes};
 ghost use Rattle.map.specs.Answers.{answerOf};
 ghost use Rattle.cursor.specs.Answers.{stepOf, wroteOf};
 
@@ -26,7 +28,8 @@ use model::KEY;
 use model::MOST_LEVELS;
 use tree::search::Got;
 
-// An entry, or that the gap is at that end of the list. Callers take it apart with `let .. else` and go on only with the entry that it carries.
+// An entry, or that the gap is at that end of the list. Callers take it apart with `let .. else` and go on only with
+// the entry that it carries.
 pub enum Step {
     Entry(u64, u64),
     End,
@@ -168,7 +171,7 @@ pub fn write_prev(pool: &mut [u64], value: u64) -> Wrote
 
 // The map is free for other changes again.
 pub fn close(pool: &mut [u64]) -> Answer
-    ensures { λ r. ⌜ Meets cursorClose (now (pool .entry)) (now (pool .exit)) (answerOf r) ⌝ }
+    ensures { λ r. ⌜ Closes (now (pool .entry)) (now (pool .exit)) (answerOf r) ⌝ }
 {
     match gap::ready(pool) {
         Early::Refused(n) => return Answer::Refused(n),

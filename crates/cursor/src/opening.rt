@@ -1,9 +1,10 @@
-// Opening: the gap that a lower or an upper bound chooses. Lower Unbounded is the start, which is known without a page; any other gap costs one search from the root.
+// Opening: the gap that a lower or an upper bound chooses. Lower Unbounded is the start, which is known without a page;
+// any other gap costs one search from the root.
 ghost use mathlib.Core.Path.{_≡_};
 ghost use mathlib.Core.Bool.{true};
 ghost use lib.ListN.{length};
 ghost use Rattle.model.specs.Head.{levelsWord, headed};
-ghost use Rattle.model.specs.Call.{Meets};
+ghost use Rattle.model.specs.Call.{ReadsPages};
 ghost use Rattle.model.specs.CursorCalls.{cursorOpenLower, cursorOpenUpper};
 ghost use Rattle.cursor.specs.Answers.{openedOf};
 ghost use Rattle.cursor.specs.Open.{Opens, OpensBy, aimRead};
@@ -71,14 +72,14 @@ fn by(pool: &mut [u64], bound: Bound) -> Opened
 
 // The gap after the entries that come before a lower bound.
 pub fn lower(pool: &mut [u64], kind: u64, key: u64) -> Opened
-    ensures { λ r. ⌜ Meets (cursorOpenLower kind key) (now (pool .entry)) (now (pool .exit)) (openedOf r) ⌝ }
+    ensures { λ r. ⌜ ReadsPages (cursorOpenLower kind key) (λ n. n) (now (pool .entry)) (now (pool .exit)) (openedOf r) ⌝ }
 {
     by(pool, bound::lower(kind, key))
 }
 
 // The gap after the entries that come before an upper bound.
 pub fn upper(pool: &mut [u64], kind: u64, key: u64) -> Opened
-    ensures { λ r. ⌜ Meets (cursorOpenUpper kind key) (now (pool .entry)) (now (pool .exit)) (openedOf r) ⌝ }
+    ensures { λ r. ⌜ ReadsPages (cursorOpenUpper kind key) (λ n. n) (now (pool .entry)) (now (pool .exit)) (openedOf r) ⌝ }
 {
     by(pool, bound::upper(kind, key))
 }

@@ -1,4 +1,5 @@
-// Playback: the entries from the gap on, by nexts, into lent slices. Each answer is taken apart, and playback goes on only with the entry that it carries.
+// Playback: the entries from the gap on, by nexts, into lent slices. Each answer is taken apart, and playback goes on
+// only with the entry that it carries.
 ghost use mathlib.Core.Path.{_≡_};
 ghost use mathlib.Core.List.{[], _∷_};
 ghost use Prim.Native.Nat.{min};
@@ -8,16 +9,17 @@ ghost use Rattle.model.specs.CursorCalls.{cursorTests};
 ghost use Rattle.model.specs.ListCalls.{keyColumn, valueColumn};
 ghost use Rattle.map.specs.Answers.{listedOf};
 ghost use Rattle.model.specs.Playback.{Plays};
-ghost use Rattle.cursor.specs.Playback.{Stops};
+ghost use Rattle.cursor.specs.Playback.{PlayStops};
 use crate::Step;
 use crate::gap;
 use crate::next;
 use map::list::Listed;
 use map::refusal::Early;
 
-// Playback that ends with no further entry, after `n`: where the first next is refused it is refused; else it has told what it wrote.
+// Playback that ends with no further entry, after `n`: where the first next is refused it is refused; else it has told
+// what it wrote.
 fn stop(step: Step, n: usize) -> Listed
-    ensures { λ r. ⌜ Stops step n r ⌝ }
+    ensures { λ r. ⌜ PlayStops step n r ⌝ }
 {
     if n != 0 {
         return Listed::Wrote(n);

@@ -9,16 +9,17 @@ use Prim.Native.Nat.{ℕ, suc, _+_, _≤_, _<_}
 use native.Mathlib.Omega.{arith}
 use lib.ListN.{length, drop, getD, length-append, length-drop}
 use lib.Seq.{length-take-le, take-at, drop-cons, getD-drop}
-use Rattle.model.specs.Lists.{ins}
+use Rattle.model.specs.Basics.{ins}
 use Rattle.model.specs.Tree.{Entry, Node, noEntry}
-use Rattle.model.specs.Page.{countOf, heightOf, entryIn, childIn, entriesOf, childrenOf, Holds}
+use Rattle.model.specs.Page.{countOf, heightOf, entryIn, childIn, entriesOf, childrenOf}
+use Rattle.model.specs.Standing.{Holds}
 use Rattle.model.specs.Insert.{cutLeft, cutRight}
 use Rattle.model.specs.Mend.{glue}
 use Rattle.page.specs.declared.Change.{Change}
 use Rattle.page.specs.Node.{alone, more, wider}
 use Rattle.page.specs.Page.{roomAt, fullAt}
 use Rattle.lend.specs.Pages.{most, keeps, OnlyPages, nodeIn, Becomes, ChangesIn, pageIn}
-use Rattle.model.proofs.Lists.{length-ins}
+use Rattle.model.proofs.Basics.{length-ins}
 use Rattle.model.proofs.Read.{length-own, length-children}
 use Rattle.page.proofs.Pages.{room-at, full-facts, holds-count, holds-more}
 use Rattle.lend.proofs.Lent.{only-none, only-again, own-at, child-at, holds-as}

@@ -10,13 +10,13 @@ use lib.Bits.{bitOr, or-zero-l, or-add-and, and-le-r}
 use lib.Dec.{eqb}
 use lib.ListN.{length}
 use borrow.Author.Tests.{ne-eqb}
-use Rattle.model.specs.Lists.{tab, every}
+use Rattle.model.specs.Basics.{tab, every}
 use Rattle.model.specs.Layout.{headWords, mostLevels, firstWord, pagesIn, allowed, word, today}
 use Rattle.model.specs.Head.{geometryOf, spareWords, numberTests, fits, headed, countWord, rootWord, levelsWord}
 use Rattle.lend.specs.Pages.{Inside}
 use Rattle.lend.specs.Touches.{Sized}
 use Rattle.model.proofs.Cases.{either, contrary, either-eq}
-use Rattle.model.proofs.Lists.{tab-ext, every-append, every-then, every-one}
+use Rattle.model.proofs.Basics.{tab-ext, every-append, every-then, every-one}
 use Rattle.model.proofs.Head.{head-facts}
 use Rattle.lend.proofs.Lent.{page-inside}
 

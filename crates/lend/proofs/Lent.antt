@@ -9,18 +9,19 @@ use Prim.Native.Nat.{ℕ, suc, _+_, _-_, _≤_, _<_}
 use native.Mathlib.Omega.{arith}
 use lib.ListN.{length, take, drop, getD, take-append-drop}
 use lib.Seq.{take-take}
-use Rattle.model.specs.Lists.{All}
+use Rattle.model.specs.Basics.{All}
 use Rattle.model.specs.Layout.{pageWords, firstWord, pagesIn, today}
 use Rattle.model.specs.Tree.{Entry, Node, noEntry}
-use Rattle.model.specs.Page.{countOf, entryIn, childIn, entriesOf, childrenOf, Holds, pageAt}
+use Rattle.model.specs.Page.{countOf, entryIn, childIn, entriesOf, childrenOf, pageAt}
+use Rattle.model.specs.Standing.{Holds}
 use Rattle.model.specs.Insert.{cutLeft}
 use Rattle.page.specs.declared.Change.{Change}
 use Rattle.page.specs.declared.Parting.{Parting}
-use Rattle.page.specs.Runs.{part, put, Changed}
+use Rattle.page.specs.Runs.{part, withRun, Changed}
 use Rattle.page.specs.Page.{Changes, Splits, parted}
 use Rattle.lend.specs.Pages.{most, keeps, Inside, OnlyPages, ChangesIn, KeepsIn, pageIn}
 use Rattle.model.proofs.Cases.{either-lt}
-use Rattle.model.proofs.Lists.{all-left, all-right, getD-tab}
+use Rattle.model.proofs.Basics.{all-left, all-right, getD-tab}
 use Rattle.page.proofs.Parts.{changed, part-low, part-high, length-part}
 
 -- a page of the pool lies inside its words
@@ -73,7 +74,7 @@ abbrev pub lentPart : List ℕ → ℕ → List ℕ
 lentPart w p = part (firstWord today p) (span p) w
 
 abbrev pub lentBack : List ℕ → ℕ → List ℕ → List ℕ
-lentBack w p ys = put (firstWord today p) (span p) ys w
+lentBack w p ys = withRun (firstWord today p) (span p) ys w
 
 pub lent-page : (w : List ℕ) (p : ℕ) → lentPart w p ≡ pageIn w p
 unfolding pageAt
@@ -93,7 +94,7 @@ module _ (w : List ℕ) (p : ℕ) (ys : List ℕ) (inside : Inside p w) (sized :
   back-part : Changed (firstWord today p) (pageWords today) ys w (lentBack w p ys)
   back-part =
       let long : length ys ≡ pageWords today = sized ∙ length-part (firstWord today p) (span p) w (omega arith) ∙ span-words p in
-      changed (ap (λ (k : ℕ). put (firstWord today p) k ys w) (span-words p)) long (omega arith)
+      changed (ap (λ (k : ℕ). withRun (firstWord today p) k ys w) (span-words p)) long (omega arith)
 
   pub lent-only : OnlyPages (p ∷ []) w (lentBack w p ys)
   lent-only = only-part p back-part

@@ -1,5 +1,5 @@
--- What `model` says of pages cut and glued, as code makes it, entry by entry: a page copied from its front, a neighbour's entries behind a page, and
--- one entry through the parent. Over any type of child.
+-- What `model` says of pages cut and glued, as code makes it, entry by entry: a page copied from its front, a
+-- neighbour's entries behind a page, and one entry through the parent. Over any type of child.
 -- Assumes nothing.
 use mathlib.Core.Path.{_≡_, refl, ap, _∙_}
 use mathlib.Core.List.{List, [], _∷_, _++_, append-assoc, append-nil}
@@ -7,7 +7,7 @@ use Prim.Native.Nat.{ℕ, zero, suc, _+_, _≤_, _<_}
 use native.Mathlib.Omega.{arith}
 use lib.ListN.{length, take, drop, getD, drop-of-length-le, List·getD-append}
 use lib.Seq.{take-all, take-append-le, drop-append-le, drop-cons, drop-at, drop-append-add, getD-append-add}
-use Rattle.model.specs.Lists.{ins, del}
+use Rattle.model.specs.Basics.{ins, del}
 use Rattle.model.specs.Tree.{Entry, Node, noEntry}
 use Rattle.model.specs.Insert.{cutLeft, cutRight}
 use Rattle.model.specs.Mend.{glue}

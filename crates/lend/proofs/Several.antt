@@ -10,9 +10,10 @@ use native.Mathlib.Omega.{arith}
 use lib.Dec.{leb, ltb, eqb}
 use lib.ListN.{length, getD}
 use borrow.Author.Tests.{not-true, leb-true, ltb-true, eqb-false, lt-ltb, le-ltb, eq-eqb, ne-eqb}
-use Rattle.model.specs.Lists.{every}
+use Rattle.model.specs.Basics.{every}
 use Rattle.model.specs.Tree.{Entry, Node, noEntry}
-use Rattle.model.specs.Page.{countOf, heightOf, entryIn, childIn, entriesOf, childrenOf, Holds}
+use Rattle.model.specs.Page.{countOf, heightOf, entryIn, childIn, entriesOf, childrenOf}
+use Rattle.model.specs.Standing.{Holds}
 use Rattle.model.specs.Insert.{cutRight}
 use Rattle.model.specs.Mend.{glue}
 use Rattle.page.specs.declared.Change.{Change}
@@ -23,7 +24,7 @@ use Rattle.page.specs.Node.{more, wider, less, instead}
 use Rattle.page.specs.Page.{roomAt, holdsAt, fullAt}
 use Rattle.lend.specs.Pages.{most, keeps, OnlyPages, nodeIn, Becomes, ChangesIn, KeepsIn, canSplit, SplitsIn, areApart, canPass, PassesIn, MovesIn, canJoin, JoinsIn, pageIn}
 use Rattle.model.proofs.Cases.{contrary, either, either-lt}
-use Rattle.model.proofs.Lists.{every-true}
+use Rattle.model.proofs.Basics.{every-true}
 use Rattle.model.proofs.Read.{length-own, length-children}
 use Rattle.page.proofs.Pages.{room-facts, holds-facts}
 use Rattle.lend.proofs.Lent.{own-at, child-at, only-none, only-then, only-wider}

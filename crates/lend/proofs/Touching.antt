@@ -8,14 +8,14 @@ use Prim.Native.Nat.{ℕ, _+_, _≤_, _<_, _*_}
 use native.Mathlib.Omega.{arith}
 use lib.ListN.{length, take, drop-of-length-le, drop}
 use lib.Seq.{take-take}
-use Rattle.model.specs.Lists.{All}
+use Rattle.model.specs.Basics.{All}
 use Rattle.model.specs.Layout.{headWords, pageWords, mapWords, firstWord, word, pagesIn, today}
 use Rattle.model.specs.PageMap.{mapAt}
 use Rattle.model.specs.Page.{pageAt}
-use Rattle.page.specs.Runs.{part, put, Changed}
+use Rattle.page.specs.Runs.{part, withRun, Changed}
 use Rattle.lend.specs.Pages.{OnlyPages, pageIn, mapIn}
 use Rattle.lend.specs.Touches.{Touches, MapBecomes, Sized}
-use Rattle.model.proofs.Lists.{all-left, all-right, front-word}
+use Rattle.model.proofs.Basics.{all-left, all-right, front-word}
 use Rattle.model.proofs.Lawful as lawful
 use Rattle.page.proofs.Parts.{changed, part-low, part-high, length-part}
 
@@ -72,8 +72,8 @@ pub map-bits : (w : List ℕ) → Sized w → pagesIn today (length w) ≤ 64 * 
 map-bits w s = lawful.map-bits today lawful.today-lawful w (s .0) (omega arith)
 
 -- neither head nor pages change, and the map is what came back, m
-pub map-back : (w ys m : List ℕ) → firstWord today 0 ≤ length w → length ys ≡ length (lentMap w) → ys ≡ m → MapBecomes m w (put headWords (mapWords today) ys w)
+pub map-back : (w ys m : List ℕ) → firstWord today 0 ≤ length w → length ys ≡ length (lentMap w) → ys ≡ m → MapBecomes m w (withRun headWords (mapWords today) ys w)
 unfolding mapAt pageAt
 map-back w ys m inside sized e =
-    let c : Changed headWords (mapWords today) ys w (put headWords (mapWords today) ys w) = changed refl (sized ∙ map-long w inside) inside in
+    let c : Changed headWords (mapWords today) ys w (withRun headWords (mapWords today) ys w) = changed refl (sized ∙ map-long w inside) inside in
     record { map = c .here ∙ e; keeps = record { long = c .long; head = c .low; others = λ q _. part-high c (firstWord today q) (pageWords today) (omega arith) } }

@@ -9,11 +9,12 @@ use mathlib.Core.List.{List, [], _∷_}
 use Prim.Native.Nat.{ℕ, suc, _+_, _-_, _≤_}
 use lib.Dec.{leb, ltb, eqb}
 use lib.ListN.{length, take, getD}
-use Rattle.model.specs.Lists.{All, every}
+use Rattle.model.specs.Basics.{All, every}
 use Rattle.model.specs.Layout.{mostEntries, firstWord, today}
 use Rattle.model.specs.PageMap.{mapAt}
 use Rattle.model.specs.Tree.{Entry, Node, noEntry}
-use Rattle.model.specs.Page.{countOf, heightOf, entriesOf, childrenOf, nodeOf, Holds, pageAt}
+use Rattle.model.specs.Page.{countOf, heightOf, entriesOf, childrenOf, pageAt}
+use Rattle.model.specs.Standing.{nodeOf, Holds}
 use Rattle.model.specs.Insert as insertion
 use Rattle.model.specs.Insert.{cutLeft, cutRight}
 use Rattle.model.specs.Mend.{glue}

@@ -4,9 +4,9 @@ ghost use mathlib.Core.Path.{_≡_};
 ghost use Prim.Native.Nat.{_≤_};
 ghost use lib.Dec.{eqb};
 ghost use lib.ListN.{length};
-ghost use Rattle.model.specs.PageMap.{bitAt, countBits};
-ghost use Rattle.pagemap.specs.Bits.{clearBit};
-ghost use Rattle.pagemap.specs.Lowest.{freeIn, firstOf, took, enough};
+ghost use Rattle.model.specs.PageMap.{bitAt};
+ghost use Rattle.pagemap.specs.Bits.{countBits, clearBit};
+ghost use Rattle.pagemap.specs.Lowest.{freeIn, lowestOf, took, enough};
 ghost use Rattle.lend.specs.Pages.{mapIn};
 ghost use Rattle.lend.specs.Touches.{Sized, MapBecomes};
 use model::FIRST_PAGE;
@@ -46,7 +46,7 @@ pub fn has_free(pool: &[u64], k: usize) -> bool
 
 pub fn take_lowest(pool: &mut [u64]) -> Lowest
     requires { ⌜ Sized (now pool) ⌝ }
-    ensures { λ r. ⌜ (r ≡ firstOf (freeIn (mapIn (now (pool .entry))) (pagesIn today (length (now (pool .entry)))))) × MapBecomes (took (mapIn (now (pool .entry))) r) (now (pool .entry)) (now (pool .exit)) ⌝ }
+    ensures { λ r. ⌜ (r ≡ lowestOf (freeIn (mapIn (now (pool .entry))) (pagesIn today (length (now (pool .entry)))))) × MapBecomes (took (mapIn (now (pool .entry))) r) (now (pool .entry)) (now (pool .exit)) ⌝ }
 {
     let pages = pages_in(pool);
     pagemap::take_lowest(&mut pool[HEAD_WORDS..FIRST_PAGE], pages)

@@ -7,7 +7,7 @@ ghost use mathlib.Core.List.{map};
 ghost use Prim.Native.Nat.{_≤_};
 ghost use lib.Dec.{eqb};
 ghost use lib.ListN.{length};
-ghost use Rattle.model.specs.Lists.{every};
+ghost use Rattle.model.specs.Basics.{every};
 ghost use Rattle.model.specs.Head.{levelsWord, spareWords, bothOrNeither, numberTests, headed};
 ghost use Rattle.model.specs.Layout as layout;
 use model::AFTER;

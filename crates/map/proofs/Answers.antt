@@ -1,4 +1,5 @@
--- What the answers' meanings have in common: no refusal's number is 0, so a refusal is never taken for none; a refusal is read back from its number, and an answer from what it says.
+-- What the answers' meanings have in common: no refusal's number is 0, so a refusal is never taken for none; a refusal
+-- is read back from its number, and an answer from what it says.
 -- Assumes nothing.
 use mathlib.Core.Path.{_≡_, refl, sym, ap, _∙_}
 use mathlib.Core.List.{[], _∷_}
@@ -6,7 +7,7 @@ use Prim.Native.Nat.{ℕ, _-_, _≤_}
 use native.Mathlib.Omega.{arith}
 use lib.ListN.{getD}
 use Rattle.model.specs.Call.{Outcome, refused, answered}
-use Rattle.model.specs.Agree.{Tells}
+use Rattle.model.specs.Agree.{OneToOne}
 use Rattle.map.specs.declared.refusal.Refusal.{Refusal}
 use Rattle.map.specs.declared.refusal.Refusal.the-variants as reason
 use Rattle.map.specs.Answers.{numberOf}
@@ -43,13 +44,13 @@ pub nine-unsound : (e : Refusal) → numberOf e ≡ 9 → e ≡ reason.Unsound
 nine-unsound e q = sym (refusal-back e) ∙ ap refusalOf q
 
 -- an answer is read back from what it says: no two say the same
-pub back-tells : {R B : Type 0} (of : R → B) (back : B → R) → ((r : R) → back (of r) ≡ r) → Tells of
-back-tells of back law r s e = sym (law r) ∙ ap back e ∙ law s
+pub back-one-to-one : {R B : Type 0} (of : R → B) (back : B → R) → ((r : R) → back (of r) ≡ r) → OneToOne of
+back-one-to-one of back law r s e = sym (law r) ∙ ap back e ∙ law s
 
 -- every call that can refuse does so by a number; the rest of its answer is read back by `give`
 abbrev pub backBy : {R A : Type 0} → (Refusal → R) → (A → R) → Outcome A → R
 backBy refuse give (refused n) = refuse (refusalOf n)
 backBy refuse give (answered a) = give a
 
-pub outcome-tells : {R A : Type 0} (of : R → Outcome A) (refuse : Refusal → R) (give : A → R) → ((r : R) → backBy refuse give (of r) ≡ r) → Tells of
-outcome-tells of refuse give = back-tells of (backBy refuse give)
+pub outcome-one-to-one : {R A : Type 0} (of : R → Outcome A) (refuse : Refusal → R) (give : A → R) → ((r : R) → backBy refuse give (of r) ≡ r) → OneToOne of
+outcome-one-to-one of refuse give = back-one-to-one of (backBy refuse give)

@@ -14,20 +14,19 @@ use borrow.Author.Tests.{not-true}
 use Rattle.model.specs.Head.{levelsWord}
 use Rattle.model.specs.Tree.{Entry, entry, noEntry}
 use Rattle.model.specs.Entries.{has, lookup}
-use Rattle.model.specs.Gap.{Found}
+use Rattle.model.specs.Search.{Found, Seen}
 use Rattle.model.specs.Write.{write}
-use Rattle.model.specs.Pool.{Pool, heldBy, poolOf, wholeOf, withWhole, leastBy}
+use Rattle.model.specs.Pool.{Pool, heldBy, poolOf, withWhole, leastBy}
 use Rattle.model.specs.Sound.{Sound}
 use Rattle.model.specs.Written.{Written}
 use Rattle.model.specs.Refusal.{Test, _when_, refusal, mapKind, setKind}
-use Rattle.model.specs.Call.{Call, Outcome, refused, answered, given, number, Meets}
-use Rattle.model.specs.PoolCalls.{reads}
-use Rattle.model.specs.MapCalls.{readTests, changeTests, file, noRoom, strike, pagesRead, Seen, mapInsert, mapGet, mapContains, mapReplace}
+use Rattle.model.specs.Call.{Call, Outcome, refused, answered, given, number, Meets, ReadsPages, reads}
+use Rattle.model.specs.MapCalls.{readTests, changeTests, file, noRoom, strike, pagesRead, mapInsert, mapGet, mapContains, mapReplace}
 use Rattle.model.specs.SetCalls.{setInsert, setGet, setContains}
 use Rattle.model.specs.Source.{view, member}
 use Rattle.tree.specs.declared.search.Got.{Got}
 use Rattle.tree.specs.declared.search.Got.the-variants as got
-use Rattle.tree.specs.Search.{gotBy, Gets}
+use Rattle.tree.specs.Search.{gotBy, Gets, ReadFew}
 use Rattle.tree.specs.Write.{Writes}
 use Rattle.map.specs.declared.entry.Added.{Added}
 use Rattle.map.specs.declared.entry.Added.the-variants as added
@@ -39,12 +38,13 @@ use Rattle.map.specs.declared.refusal.Refusal.{Refusal}
 use Rattle.map.specs.Answers.{numberOf}
 use Rattle.map.specs.Entry.{gapFor, spotFor, StandsAt, Finds, Adds, Strikes}
 use Rattle.model.proofs.Cases.{contrary, never}
-use Rattle.model.proofs.Lists.{all-at}
+use Rattle.model.proofs.Basics.{all-at}
 use Rattle.model.proofs.Entries.{has-key, has-lookup, lookup-at, there}
 use Rattle.model.proofs.Write.{write-same}
 use Rattle.model.proofs.Right.{sound-right}
 use Rattle.model.proofs.Keeps.{Keeps, keeps-reads, keeps-map-insert, keeps-map-replace, keeps-set-insert}
 use Rattle.model.proofs.Written.{sound-written}
+use Rattle.model.proofs.Reading.{read-absent, pages-told, pages-refused}
 use Rattle.model.proofs.Meets.{Staged, meets-early, meets-answered, meets-stopped, meets-unsound, meets-read, passes-changing}
 use Rattle.map.proofs.Answers.{number-some}
 use Rattle.map.proofs.Placing.{absent-value}
@@ -111,7 +111,7 @@ module _ {A : Type 0} (kind : ℕ) {k x : ℕ} {answer : Pool → A} {still : Po
       record {
         passes = rw (n .absent, n .room);
         answers = b .0;
-        holds = rw (n .absent) (n .holds (rw (passes-changing kind w (sym pass) .2) (omega arith)));
+        holds = rw (n .absent) (n .holds);
         still = λ z. contrary z (b .1);
       })
 
@@ -181,7 +181,7 @@ module _ {A : Type 0} (kind : ℕ) {k : ℕ} {answer : Pool → A} {w v : List �
       record {
         passes = refl;
         answers = says (o .value);
-        holds = rw y (o .holds (rw (passes-changing kind w (sym pass) .2) (omega arith)));
+        holds = rw y (o .holds);
         still = λ n. contrary y (not-true (member w k) n);
       })
 
@@ -217,33 +217,37 @@ unsound-got : (o : Option ℕ) (read : ℕ) → got.Unsound ≢ gotBy 0 o read
 unsound-got (some v) read e = never (cc)
 unsound-got none read e = never (cc)
 
-module _ (k : ℕ) (w : List ℕ) {r : Got} (gets : Gets w k r) where
+module _ (k : ℕ) (w : List ℕ) {r : Got} (gets : Gets w k r × ReadFew (levelsWord w) r) where
   pub gets-value : {old n : ℕ} → r ≡ got.Value old n → Sound w → (view w k ≡ some old) × (pagesRead k (poolOf w) ≡ n)
-  gets-value {old} {n} e s = value-got (view w k) (pagesRead k (poolOf w)) old n (sym e ∙ gets s)
+  gets-value {old} {n} e s = value-got (view w k) (pagesRead k (poolOf w)) old n (sym e ∙ gets .0 s)
 
   -- the pages read are all levels where the key is absent
   gets-absent : r ≡ got.Absent → Sound w → (view w k ≡ none) × (pagesRead k (poolOf w) ≡ levelsWord w)
-  unfolding pagesRead poolOf wholeOf
-  gets-absent e s = let o = absent-got (view w k) (pagesRead k (poolOf w)) (sym e ∙ gets s) in (o, rw (value-none w k o))
+  gets-absent e s = let o = absent-got (view w k) (pagesRead k (poolOf w)) (sym e ∙ gets .0 s) in (o, read-absent k w s (value-none w k o))
 
-  pub get-unsound : {A : Type 0} (kind : ℕ) {answer : Pool → A} → 0 ≡ refusal (readTests kind w) → r ≡ got.Unsound → Meets (reads (readTests kind) answer) w w (refused 9)
+  pub get-unsound : {A : Type 0} (kind : ℕ) {answer : Pool → A} {read : A → ℕ} → 0 ≡ refusal (readTests kind w) → r ≡ got.Unsound
+      → ReadsPages (reads (readTests kind) answer) read w w (refused 9)
   get-unsound kind {answer} pass e =
-      meets-unsound (λ w p. (refl, refl)) (keeps-reads (readTests kind) answer) pass
-      (refl, λ s. unsound-got (view w k) (pagesRead k (poolOf w)) (sym e ∙ gets s))
+      pages-refused (meets-unsound (λ w p. (refl, refl)) (keeps-reads (readTests kind) answer) pass
+      (refl, λ s. unsound-got (view w k) (pagesRead k (poolOf w)) (sym e ∙ gets .0 s)))
 
-  pub get-value : {old n : ℕ} → 0 ≡ refusal (readTests mapKind w) → r ≡ got.Value old n → Meets (mapGet k) w w (answered (record { value = some old; read = n }))
-  get-value pass e = reads-answered mapKind pass (λ s. let g = gets-value e s in cc)
+  pub get-value : {old n : ℕ} → 0 ≡ refusal (readTests mapKind w) → r ≡ got.Value old n
+      → ReadsPages (mapGet k) (λ f. f .read) w w (answered (record { value = some old; read = n }))
+  get-value {old} {n} pass e = pages-told (reads-answered mapKind pass (λ s. let g = gets-value e s in cc)) (gets .1 old n e)
 
-  pub get-absent : {n : ℕ} → 0 ≡ refusal (readTests mapKind w) → r ≡ got.Absent → n ≡ levelsWord w → Meets (mapGet k) w w (answered (record { value = none; read = n }))
-  get-absent pass e levels = reads-answered mapKind pass (λ s. let g = gets-absent e s in cc)
+  pub get-absent : {n : ℕ} → 0 ≡ refusal (readTests mapKind w) → r ≡ got.Absent → n ≡ levelsWord w
+      → ReadsPages (mapGet k) (λ f. f .read) w w (answered (record { value = none; read = n }))
+  get-absent pass e levels = pages-told (reads-answered mapKind pass (λ s. let g = gets-absent e s in cc)) (omega arith)
 
   pub set-contains-present : {old n : ℕ} → 0 ≡ refusal (readTests setKind w) → r ≡ got.Value old n
-      → Meets (setContains k) w w (answered (record { present = true; read = n }))
-  set-contains-present pass e = reads-answered setKind pass (λ s. let g = gets-value e s in cc (value-there w k (g .0)))
+      → ReadsPages (setContains k) (λ f. f .read) w w (answered (record { present = true; read = n }))
+  set-contains-present {old} {n} pass e =
+      pages-told (reads-answered setKind pass (λ s. let g = gets-value e s in cc (value-there w k (g .0)))) (gets .1 old n e)
 
   pub set-contains-absent : {n : ℕ} → 0 ≡ refusal (readTests setKind w) → r ≡ got.Absent → n ≡ levelsWord w
-      → Meets (setContains k) w w (answered (record { present = false; read = n }))
-  set-contains-absent pass e levels = reads-answered setKind pass (λ s. let g = gets-absent e s in cc (value-none w k (g .0)))
+      → ReadsPages (setContains k) (λ f. f .read) w w (answered (record { present = false; read = n }))
+  set-contains-absent pass e levels =
+      pages-told (reads-answered setKind pass (λ s. let g = gets-absent e s in cc (value-none w k (g .0)))) (omega arith)
 
 -- ---- a reading call by another of the same tests
 
@@ -272,18 +276,26 @@ module _ {A B : Type 0} (f : A → B) (tests : List ℕ → List Test) (one : Po
     still = meets .still;
   }
 
+  pages-mapped : (read : A → ℕ) (read′ : B → ℕ) → ((a : A) → read′ (f a) ≡ read a) → (r : Outcome A) → ReadsPages (reads tests one) read w w r
+      → ReadsPages (reads tests other) read′ w w (mapped f r)
+  pages-mapped read read′ kept (refused n) pages = pages-refused (reads-mapped (refused n) (pages .meets))
+  pages-mapped read read′ kept (answered a) pages = pages-told (reads-mapped (answered a) (pages .meets)) (rw kept (pages .few a refl))
+
 -- contains answers whether get does
 abbrev seenOf : Found → Seen
 seenOf a = record { present = there (a .value); read = a .read }
 
-pub contains-by-get : (k : ℕ) (w : List ℕ) {r r′ : Outcome Found} → r ≡ r′ → Meets (mapGet k) w w r → Meets (mapContains k) w w (mapped seenOf r′)
-contains-by-get k w {r} e meets =
+pub contains-by-get : (k : ℕ) (w : List ℕ) {r r′ : Outcome Found} → r ≡ r′ → ReadsPages (mapGet k) (λ f. f .read) w w r
+    → ReadsPages (mapContains k) (λ f. f .read) w w (mapped seenOf r′)
+contains-by-get k w {r} e pages =
     let h = has-lookup k (heldBy (poolOf w)) in
-    rw e at (reads-mapped seenOf (readTests mapKind) (found k) (seen k) w (cc) r meets)
+    rw e at (pages-mapped seenOf (readTests mapKind) (found k) (seen k) w (cc) (λ f. f .read) (λ f. f .read) (λ a. refl) r pages)
 
 -- a set's get answers the key where contains says that it is there
 abbrev keyOf : ℕ → Seen → Found
 keyOf k a = record { value = cond (a .present) (some k) none; read = a .read }
 
-pub set-get-by-contains : (k : ℕ) (w : List ℕ) {r r′ : Outcome Seen} → r ≡ r′ → Meets (setContains k) w w r → Meets (setGet k) w w (mapped (keyOf k) r′)
-set-get-by-contains k w {r} e meets = rw e at (reads-mapped (keyOf k) (readTests setKind) (seen k) (λ p. keyOf k (seen k p)) w refl r meets)
+pub set-get-by-contains : (k : ℕ) (w : List ℕ) {r r′ : Outcome Seen} → r ≡ r′ → ReadsPages (setContains k) (λ f. f .read) w w r
+    → ReadsPages (setGet k) (λ f. f .read) w w (mapped (keyOf k) r′)
+set-get-by-contains k w {r} e pages =
+    rw e at (pages-mapped (keyOf k) (readTests setKind) (seen k) (λ p. keyOf k (seen k p)) w refl (λ f. f .read) (λ f. f .read) (λ a. refl) r pages)

@@ -1,5 +1,6 @@
--- Laws of lists in code: what lent slices hold once one more entry is written, how many of the leading entries come before the upper bound, and what a list has come to after i entries,
--- which each turn of the loop takes on and each way out turns into the promise.
+-- Laws of lists in code: what lent slices hold once one more entry is written, how many of the leading entries come
+-- before the upper bound, and what a list has come to after i entries, which each turn of the loop takes on and each
+-- way out turns into the promise.
 -- Assumes nothing.
 use mathlib.Core.Path.{_≡_, refl, sym, ap, ap₂, subst, _∙_}
 use mathlib.Core.Bool.{Bool, true, false}
@@ -21,9 +22,9 @@ use Rattle.tree.specs.Search.{aimed}
 use Rattle.tree.specs.Steps.{stepBy, Forth}
 use Rattle.map.specs.declared.list.Listed.{Listed}
 use Rattle.map.specs.declared.list.Listed.the-variants as listed
-use Rattle.map.specs.List.{laid, front, Stops, Holds, Runs}
+use Rattle.map.specs.List.{laid, front, Stops, ColumnsHold, Runs}
 use Rattle.model.proofs.Cases.{never}
-use Rattle.model.proofs.Lists.{next-some, found-some, found-none}
+use Rattle.model.proofs.Basics.{next-some, found-some, found-none}
 use Rattle.model.proofs.Entries.{keyAt, gap-le, gap-more, gap-ends}
 
 -- ---- slices
@@ -77,7 +78,7 @@ module _ (es : List Entry) (ks₀ vs₀ : List ℕ) where
   })
 
   filled-holds : (upper : Aim) (n : ℕ) {i : ℕ} {ks vs : List ℕ} → Filled (aimed upper) es ks₀ vs₀ i ks vs → min n (gapOf (aimed upper) es) ≡ i
-      → Holds (front upper n es) ks₀ vs₀ ks vs (listed.Wrote i)
+      → ColumnsHold (front upper n es) ks₀ vs₀ ks vs (listed.Wrote i)
   filled-holds upper n {i} f all = rw all (record {
     wrote = ap listed.Wrote (sym (length-take-le i es (omega (arith, f .few, gap-le (aimed upper) es))));
     keys = f .keys;

@@ -14,6 +14,7 @@ use lib.ListN.{length, getD}
 use borrow.Author.Tests.{lt-ltb, eq-eqb, ne-eqb}
 use Rattle.model.specs.Tree.{entry, noEntry, held}
 use Rattle.model.specs.Page.{entryIn}
+use Rattle.model.specs.Entries.{shut}
 use Rattle.model.specs.Pool.{heldBy, poolOf}
 use Rattle.model.specs.Sound.{Sound}
 use Rattle.model.specs.Source.{view, member}
@@ -33,7 +34,7 @@ use Rattle.map.specs.declared.entry.Added.the-variants as added
 use Rattle.map.specs.declared.entry.Sought.{Sought}
 use Rattle.map.specs.declared.entry.Sought.the-variants as sought
 use Rattle.map.specs.declared.entry.Struck.the-variants as struck
-use Rattle.map.specs.Entry.{gapFor, fullFor, spotFor, Finds, Seeks, Adds, Strikes}
+use Rattle.map.specs.Entry.{gapFor, fullFor, spotFor, Finds, SeeksKey, Adds, Strikes}
 use Rattle.model.proofs.Cases.{either, never}
 use Rattle.model.proofs.Entries.{gap-le, has-at, has-key, lookup-at}
 use Rattle.model.proofs.Right.{Right, sound-right}
@@ -84,7 +85,7 @@ module _ (w : List ℕ) (k : ℕ) (sound : Sound w) where
 -- ---- where the key was sought
 
 module _ {w ps ss ps′ ss′ : List ℕ} {k : ℕ} {b : Bool} (path : search.Seeks w (Before k) ps ss ps′ ss′ b) where
-  pub seeks-unsound : b ≡ false → Seeks w k ps ss ps′ ss′ sought.Unsound
+  pub seeks-unsound : b ≡ false → SeeksKey w k ps ss ps′ ss′ sought.Unsound
   seeks-unsound fails = record {
     pages = path .pages;
     slots = path .slots;
@@ -95,7 +96,7 @@ module _ {w ps ss ps′ ss′ : List ℕ} {k : ℕ} {b : Bool} (path : search.Se
   }
 
   module _ (holds : b ≡ true) {x : Spot} (after : SpotAfter w ps′ ss′ x) where
-    seeks-by : {r : Sought} → Finds w k r → Seeks w k ps ss ps′ ss′ r
+    seeks-by : {r : Sought} → Finds w k r → SeeksKey w k ps ss ps′ ss′ r
     seeks-by finds = record {
       pages = path .pages;
       slots = path .slots;
@@ -105,21 +106,21 @@ module _ {w ps ss ps′ ss′ : List ℕ} {k : ℕ} {b : Bool} (path : search.Se
       path = path .path;
     }
 
-    seeks-absent : (Sound w → member w k ≡ false) → Seeks w k ps ss ps′ ss′ sought.Absent
+    seeks-absent : (Sound w → member w k ≡ false) → SeeksKey w k ps ss ps′ ss′ sought.Absent
     seeks-absent absent = seeks-by (record { here = λ p s q. never (cc); absent = λ q. absent; unsound = λ q. never (cc) })
 
     spot-is : Sound w → spotFor k w ≡ x
     unfolding spotFor held
     spot-is sound = sym (after .exact 1 (poolOf w .whole .levels) (poolOf w .whole .tree) (gapFor k w) (sound-sits w sound) (gap-inside w k) (path .path sound))
 
-    pub seeks-end : x ≡ spot.End → Seeks w k ps ss ps′ ss′ sought.Absent
+    pub seeks-end : x ≡ spot.End → SeeksKey w k ps ss ps′ ss′ sought.Absent
     seeks-end e = seeks-absent (λ sound. end-absent w k sound (spot-is sound ∙ e))
 
     module _ {p s key v : ℕ} (at : x ≡ spot.At p s) (read : entry key v ≡ entryIn most (pageIn w p) s) where
       key-there : Sound w → member w k ≡ eqb key k
       key-there sound = spot-key w k sound p s key v (spot-is sound ∙ at) read
 
-      pub seeks-here : key ≡ k → Seeks w k ps ss ps′ ss′ (sought.Here p s)
+      pub seeks-here : key ≡ k → SeeksKey w k ps ss ps′ ss′ (sought.Here p s)
       seeks-here e =
           seeks-by
           (record {
@@ -128,12 +129,12 @@ module _ {w ps ss ps′ ss′ : List ℕ} {k : ℕ} {b : Bool} (path : search.Se
             unsound = λ q. never (cc);
           })
 
-      pub seeks-other : key ≢ k → Seeks w k ps ss ps′ ss′ sought.Absent
+      pub seeks-other : key ≢ k → SeeksKey w k ps ss ps′ ss′ sought.Absent
       seeks-other n = seeks-absent (λ sound. key-there sound ∙ ne-eqb key k n)
 
 -- ---- what is added
 
-module _ {w ps ss ps′ ss′ : List ℕ} {k v : ℕ} {x : Sought} (seeks : Seeks w k ps ss ps′ ss′ x) where
+module _ {w ps ss ps′ ss′ : List ℕ} {k v : ℕ} {x : Sought} (seeks : SeeksKey w k ps ss ps′ ss′ x) where
   pub adds-unsound : x ≡ sought.Unsound → Adds k v w w added.Unsound
   adds-unsound e = record {
     long = refl;
@@ -156,12 +157,12 @@ module _ {w ps ss ps′ ss′ : List ℕ} {k v : ℕ} {x : Sought} (seeks : Seek
     answers : Sound w → r ≡ insertedBy (fullFor k w)
     answers sound = puts .exact (gapFor k w) sound (gap-inside w k) (seeks .path sound)
 
-    pub adds-new : r ≡ inserted.Done → Adds k v w w′ added.New
-    adds-new done = record {
+    pub adds-new : poolOf w .cursor ≡ shut → r ≡ inserted.Done → Adds k v w w′ added.New
+    adds-new closed done = record {
       long = puts .long;
       new = λ q sound.
           let room = either (fullFor k w) (λ y. never (cc (answers sound, ap insertedBy y))) (λ n. n) in
-          record { absent = seeks .finds .absent e sound; room = room; holds = λ c. puts .holds (gapFor k w) sound (gap-inside w k) (seeks .path sound) c room };
+          record { absent = seeks .finds .absent e sound; room = room; holds = puts .holds (gapFor k w) sound (gap-inside w k) (seeks .path sound) (rw closed (omega arith)) room };
       here = λ p s q. never (cc);
       full = λ q. never (cc);
       unsound = λ q. never (cc);
@@ -181,7 +182,7 @@ module _ {w ps ss ps′ ss′ : List ℕ} {k v : ℕ} {x : Sought} (seeks : Seek
 strikes-none : {k : ℕ} {w w′ : List ℕ} → w′ ≡ w → (Sound w → ⊥) → Strikes k w w′ struck.Unsound
 strikes-none kept not-sound = record { long = ap length kept; value = λ v q. never (cc); absent = λ q. never (cc); unsound = λ q. (kept, not-sound) }
 
-module _ {w ps ss ps′ ss′ : List ℕ} {k : ℕ} {x : Sought} (seeks : Seeks w k ps ss ps′ ss′ x) where
+module _ {w ps ss ps′ ss′ : List ℕ} {k : ℕ} {x : Sought} (seeks : SeeksKey w k ps ss ps′ ss′ x) where
   pub strikes-unsound : x ≡ sought.Unsound → Strikes k w w struck.Unsound
   strikes-unsound e = strikes-none refl (seeks .finds .unsound e)
 
@@ -197,14 +198,14 @@ module _ {w ps ss ps′ ss′ : List ℕ} {k : ℕ} {x : Sought} (seeks : Seeks 
     here-entry : Sound w → gapFor k w < length (heldBy (poolOf w))
     here-entry sound = gap-entry w k sound p s (seeks .finds .here p s e .there sound .1)
 
-    pub strikes-done : {key v : ℕ} → entry key v ≡ entryIn most (pageIn w p) s → r ≡ change.Done → Strikes k w w′ (struck.Value v)
-    strikes-done {key} {v} read done = record {
+    pub strikes-done : {key v : ℕ} → poolOf w .cursor ≡ shut → entry key v ≡ entryIn most (pageIn w p) s → r ≡ change.Done → Strikes k w w′ (struck.Value v)
+    strikes-done {key} {v} closed read done = record {
       long = removes .long;
       value = λ v′ q sound.
           let t = seeks .finds .here p s e .there sound in
           record {
             value = spot-value w k sound p s key v (t .1) read (t .0) ∙ (cc);
-            holds = λ c. removes .holds (gapFor k w) sound (here-entry sound) (seeks .path sound) c;
+            holds = removes .holds (gapFor k w) sound (here-entry sound) (seeks .path sound) (rw closed (omega arith));
           };
       absent = λ q. never (cc);
       unsound = λ q. never (cc);

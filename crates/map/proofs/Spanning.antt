@@ -1,5 +1,6 @@
--- Lists: a path sought and followed gives the entries between two gaps; those gaps are the bounds', so the entries are those not before the lower bound and before the upper one; and what
--- is laid over the lent slices is what document 01's list writes.
+-- Lists: a path sought and followed gives the entries between two gaps; those gaps are the bounds', so the entries are
+-- those not before the lower bound and before the upper one; and what is laid over the lent slices is what document
+-- 01's list writes.
 -- Assumes nothing.
 use mathlib.Core.Path.{_≡_, refl, sym, ap, _∙_}
 use mathlib.Core.Bool.{Bool, true, false, cond, _||_}
@@ -8,7 +9,7 @@ use Prim.Native.Nat.{ℕ, min, _≤_}
 use native.Mathlib.Omega.{arith}
 use lib.ListN.{length, take, drop, length-take, length-map}
 use lib.Seq.{take-all}
-use Rattle.model.specs.Lists.{All}
+use Rattle.model.specs.Basics.{All}
 use Rattle.model.specs.Tree.{Entry, Rising, held}
 use Rattle.model.specs.Bound.{Bound, included, excluded, unbounded, beforeLower, beforeUpper}
 use Rattle.model.specs.Entries.{gapOf, between}
@@ -17,7 +18,7 @@ use Rattle.model.specs.Sound.{Sound}
 use Rattle.model.specs.Refusal.{Test, refusal, noBound}
 use Rattle.model.specs.Call.{refused}
 use Rattle.model.specs.MapCalls.{readTests}
-use Rattle.model.specs.ListCalls.{Column, keyColumn, valueColumn, Lists, listTests, shortest, written}
+use Rattle.model.specs.ListCalls.{Column, keyColumn, valueColumn, Lists, listTests, shortest, fronted}
 use Rattle.tree.specs.declared.search.Aim.{Aim}
 use Rattle.tree.specs.Search.{aimed, Seeks}
 use Rattle.map.specs.declared.bound.Bound.{Bound as CodeBound}
@@ -30,7 +31,7 @@ use Rattle.map.specs.Answers.{numberOf, listedOf}
 use Rattle.map.specs.Bound.{lowerAim, upperAim}
 use Rattle.map.specs.List.{laid, Tells, front, Runs, Spans, Fills}
 use Rattle.model.proofs.Cases.{either, contrary, never}
-use Rattle.model.proofs.Lists.{all-map, take-min}
+use Rattle.model.proofs.Basics.{all-map, take-min}
 use Rattle.model.proofs.Entries.{falls-upper, gap-le, gap-slice, inside-slice}
 use Rattle.model.proofs.Meets.{reading-first, reading-passed}
 use Rattle.tree.proofs.Sitting.{sound-sits}
@@ -145,7 +146,7 @@ module _ (kind : ℕ) (aim : Aim) {r : CodeBound} (said : r ≡ cond (noBound ki
 
 -- ---- what is laid over the slices is what a list writes
 
-pub laid-written : (xs s : List ℕ) → length xs ≤ length s → laid xs s ≡ written xs s
+pub laid-written : (xs s : List ℕ) → length xs ≤ length s → laid xs s ≡ fronted xs s
 unfolding laid
 laid-written xs s l = rw (take-all (length s) xs l)
 
@@ -166,7 +167,7 @@ module _ {tests : List Test} {low high : Bound} {w : List ℕ} {n : ℕ} {ks vs 
   takes-values : n ≤ length vs → Takes (valueColumn vs vs′)
   takes-values room = record { long = fills .tells .values; room = room; kept = λ e is. fills .tells .kept e is .1; lays = λ s p. fills .exact s p .values }
 
-  writes : (c : Column) → Takes c → Sound w → refusal tests ≡ 0 → c .after ≡ written (map (c .part) entries) (c .before)
+  writes : (c : Column) → Takes c → Sound w → refusal tests ≡ 0 → c .after ≡ fronted (map (c .part) entries) (c .before)
   writes c t s p =
       let room = t .room in
       t .lays s p ∙ laid-written (map (c .part) entries) (c .before) (simp (length-map, length-take) (omega arith))
@@ -179,7 +180,7 @@ module _ {tests : List Test} {low high : Bound} {w : List ℕ} {n : ℕ} {ks vs 
         late = fills .late;
         kept = λ m q. listed-refused r m q (λ x is _. all-map Takes (λ c. c .after ≡ c .before) cs (λ c t. t .kept x is) all);
         exact = λ s p. rw (← e) (ap listedOf (fills .exact s p .wrote));
-        writes = λ s p. rw (← e) (all-map Takes (λ c. c .after ≡ written (map (c .part) entries) (c .before)) cs (λ c t. writes c t s p) all);
+        writes = λ s p. rw (← e) (all-map Takes (λ c. c .after ≡ fronted (map (c .part) entries) (c .before)) cs (λ c t. writes c t s p) all);
       }
 
   pub lists-keys : n ≡ length ks → Lists tests low high w (keyColumn ks ks′ ∷ []) (listedOf r)

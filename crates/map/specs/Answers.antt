@@ -1,11 +1,11 @@
--- What each answer of a call says: document 01's number for each refusal, and the values of every other case. The promises speak of answers through these.
+-- What each answer of a call says: document 01's number for each refusal, and the values of every other case. The
+-- promises speak of answers through these.
 -- Assumes nothing: these are definitions.
 use mathlib.Core.Bool.{Bool, true, false}
 use mathlib.Core.Option.{Option, none, some}
 use Prim.Native.Nat.{ℕ}
-use Rattle.model.specs.Gap.{Found}
+use Rattle.model.specs.Search.{Found, Seen}
 use Rattle.model.specs.Call.{Outcome, refused, answered}
-use Rattle.model.specs.MapCalls.{Seen}
 use Rattle.map.specs.declared.Contained.{Contained}
 use Rattle.map.specs.declared.Contained.the-variants as contained
 use Rattle.map.specs.declared.Got.{Got}

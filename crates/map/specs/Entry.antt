@@ -1,16 +1,17 @@
--- One entry by its key, in a pool whose head fits: where it stands, a new one put in, one struck out; what each answer
--- says. On any words a place answered lies inside the pool, and what is not done has changed no word.
+-- One entry by its key: where it stands, in a pool whose head fits; a new one put in, one struck out, where the cursor
+-- is closed too. On any words a place answered lies inside the pool, and what is not done has changed no word.
 -- Assumes nothing: these are definitions.
 use mathlib.Core.Path.{_≡_}
 use mathlib.Core.Bool.{Bool, true, false}
 use mathlib.Core.Option.{none, some}
 use mathlib.Core.List.{List}
-use Prim.Native.Nat.{ℕ, _≤_, _<_}
+use Prim.Native.Nat.{ℕ, _<_}
 use lib.ListN.{length}
 use Rattle.model.specs.Tree.{entry}
-use Rattle.model.specs.Entries.{gapBefore}
+use Rattle.model.specs.Head.{headed}
+use Rattle.model.specs.Entries.{gapBefore, shut}
 use Rattle.model.specs.Remove.{remove}
-use Rattle.model.specs.Pool.{heldBy, poolOf, gapBy, withWhole, leastBy}
+use Rattle.model.specs.Pool.{heldBy, poolOf, withWhole, leastBy}
 use Rattle.model.specs.Sound.{Sound}
 use Rattle.model.specs.Written.{Written}
 use Rattle.model.specs.MapCalls.{putAt, crowded}
@@ -41,6 +42,10 @@ fullFor k w = crowded (gapFor k w) (poolOf w)
 unfoldable pub spotFor : ℕ → List ℕ → Spot
 spotFor k w = spotOf (poolOf w .whole .levels) (poolOf w .whole .tree) (gapFor k w)
 
+-- a pool that may be changed by key: its head fits, and its cursor is closed
+abbrev pub Changeable : List ℕ → Type 0
+Changeable w = (headed w ≡ true) × (poolOf w .cursor ≡ shut)
+
 -- ---- where the key's entry stands
 
 pub record StandsAt (w : List ℕ) (k p s : ℕ) : Type 0 where
@@ -53,7 +58,7 @@ pub record Finds (w : List ℕ) (k : ℕ) (r : Sought) : Type 0 where
   pub unsound : r ≡ sought.Unsound → Sound w → ⊥
 
 -- the same, with the path of the gap
-pub record Seeks (w : List ℕ) (k : ℕ) (ps ss ps′ ss′ : List ℕ) (r : Sought) : Type 0 where
+pub record SeeksKey (w : List ℕ) (k : ℕ) (ps ss ps′ ss′ : List ℕ) (r : Sought) : Type 0 where
   pub pages : length ps′ ≡ length ps
   pub slots : length ss′ ≡ length ss
   pub finds : Finds w k r
@@ -66,7 +71,7 @@ pub record Seeks (w : List ℕ) (k : ℕ) (ps ss ps′ ss′ : List ℕ) (r : So
 pub record PutIn (k v : ℕ) (w w′ : List ℕ) : Type 0 where
   pub absent : member w k ≡ false
   pub room : fullFor k w ≡ false
-  pub holds : gapBy (poolOf w) ≤ gapFor k w → Written w′ (putAt (gapFor k w) (entry k v) (poolOf w))
+  pub holds : Written w′ (putAt (gapFor k w) (entry k v) (poolOf w))
 
 pub record Adds (k v : ℕ) (w w′ : List ℕ) (r : Added) : Type 0 where
   pub long : length w′ ≡ length w
@@ -79,7 +84,7 @@ pub record Adds (k v : ℕ) (w w′ : List ℕ) (r : Added) : Type 0 where
 
 pub record TakenOut (k v : ℕ) (w w′ : List ℕ) : Type 0 where
   pub value : view w k ≡ some v
-  pub holds : gapBy (poolOf w) ≤ gapFor k w → Written w′ (withWhole (poolOf w) (remove (leastBy (poolOf w)) (poolOf w .whole) (gapFor k w)))
+  pub holds : Written w′ (withWhole (poolOf w) (remove (leastBy (poolOf w)) (poolOf w .whole) (gapFor k w)))
 
 pub record Strikes (k : ℕ) (w w′ : List ℕ) (r : Struck) : Type 0 where
   pub long : length w′ ≡ length w

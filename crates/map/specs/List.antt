@@ -1,4 +1,5 @@
--- Lists in code: what the lent slices hold once entries are laid over their fronts. A slice that is not asked for is empty, and holds nothing after.
+-- Lists in code: what the lent slices hold once entries are laid over their fronts. A slice that is not asked for is
+-- empty, and holds nothing after.
 -- Assumes nothing: these are definitions.
 use mathlib.Core.Path.{_≡_}
 use mathlib.Core.List.{List, _++_, map}
@@ -38,7 +39,7 @@ pub record Tells (ks vs ks′ vs′ : List ℕ) (r : Listed) : Type 0 where
   pub kept : (e : Refusal) → r ≡ listed.Refused e → (ks′ ≡ ks) × (vs′ ≡ vs)
 
 -- the slices hold the entries `es`
-pub record Holds (es : List Entry) (ks vs ks′ vs′ : List ℕ) (r : Listed) : Type 0 where
+pub record ColumnsHold (es : List Entry) (ks vs ks′ vs′ : List ℕ) (r : Listed) : Type 0 where
   pub wrote : r ≡ listed.Wrote (length es)
   pub keys : ks′ ≡ laid (map (λ e. e .key) es) ks
   pub values : vs′ ≡ laid (map (λ e. e .value) es) vs
@@ -51,17 +52,17 @@ front upper n es = take (min n (gapOf (aimed upper) es)) es
 pub record Runs (w : List ℕ) (upper : Aim) (ps ss : List ℕ) (n : ℕ) (ks vs ks′ vs′ : List ℕ) (r : Listed) : Type 0 where
   pub tells : Tells ks vs ks′ vs′ r
   pub late : (e : Refusal) → r ≡ listed.Refused e → e ≡ reason.Unsound
-  pub exact : OnPath w ps ss (λ h t g. Holds (front upper n (drop g (entries h t))) ks vs ks′ vs′ r)
+  pub exact : OnPath w ps ss (λ h t g. ColumnsHold (front upper n (drop g (entries h t))) ks vs ks′ vs′ r)
 
 -- from the gap of `lower`
 pub record Spans (w : List ℕ) (lower upper : Aim) (n : ℕ) (ks vs ks′ vs′ : List ℕ) (r : Listed) : Type 0 where
   pub tells : Tells ks vs ks′ vs′ r
   pub late : (e : Refusal) → r ≡ listed.Refused e → e ≡ reason.Unsound
-  pub exact : Sound w → let es = heldBy (poolOf w) in Holds (front upper n (drop (gapOf (aimed lower) es) es)) ks vs ks′ vs′ r
+  pub exact : Sound w → let es = heldBy (poolOf w) in ColumnsHold (front upper n (drop (gapOf (aimed lower) es) es)) ks vs ks′ vs′ r
 
 -- between two bounds, where no test refuses
 pub record Fills (tests : List Test) (low high : Bound) (w : List ℕ) (n : ℕ) (ks vs ks′ vs′ : List ℕ) (r : Listed) : Type 0 where
   pub tells : Tells ks vs ks′ vs′ r
   pub early : (m : ℕ) → refusal tests ≡ suc m → listedOf r ≡ refused (suc m)
   pub late : (m : ℕ) → refusal tests ≡ 0 → listedOf r ≡ refused m → m ≡ 9
-  pub exact : Sound w → refusal tests ≡ 0 → Holds (take n (between low high (heldBy (poolOf w)))) ks vs ks′ vs′ r
+  pub exact : Sound w → refusal tests ≡ 0 → ColumnsHold (take n (between low high (heldBy (poolOf w)))) ks vs ks′ vs′ r

@@ -1,9 +1,10 @@
-// One entry, by its key, in a pool of either kind whose head fits: where it stands, a new one put in, one struck out. One descent each. The path is lent from two small arrays in the frame.
+// One entry, by its key, in a pool of either kind whose head fits: where it stands; and, where the cursor is closed, a
+// new one put in, one struck out. One descent each. The path is lent from two small arrays in the frame.
 ghost use mathlib.Core.Path.{_≡_};
 ghost use mathlib.Core.Bool.{true};
 ghost use lib.ListN.{length};
 ghost use Rattle.model.specs.Head.{levelsWord, headed};
-ghost use Rattle.map.specs.Entry.{Seeks, Finds, Adds, Strikes};
+ghost use Rattle.map.specs.Entry.{Changeable, SeeksKey, Finds, Adds, Strikes};
 use model::MOST_LEVELS;
 use page::Change;
 use tree::insert::Inserted;
@@ -36,7 +37,7 @@ pub enum Struck {
 pub fn seek(pool: &[u64], key: u64, pages: &mut [usize], slots: &mut [usize]) -> Sought
     requires { ⌜ headed (now pool) ≡ true ⌝ }
     requires { ⌜ (length (now pages) ≡ levelsWord (now pool)) × (length (now slots) ≡ levelsWord (now pool)) ⌝ }
-    ensures { λ r. ⌜ Seeks (now (pool .entry)) key (now (pages .entry)) (now (slots .entry)) (now (pages .exit)) (now (slots .exit)) r ⌝ }
+    ensures { λ r. ⌜ SeeksKey (now (pool .entry)) key (now (pages .entry)) (now (slots .entry)) (now (pages .exit)) (now (slots .exit)) r ⌝ }
 {
     if !tree::search::seek(pool, Aim::Before(key), pages, slots) {
         return Sought::Unsound;
@@ -63,7 +64,7 @@ pub fn find(pool: &[u64], key: u64) -> Sought
 }
 
 fn add_by(pool: &mut [u64], key: u64, value: u64, pages: &mut [usize], slots: &mut [usize]) -> Added
-    requires { ⌜ headed (now pool) ≡ true ⌝ }
+    requires { ⌜ Changeable (now pool) ⌝ }
     requires { ⌜ (length (now pages) ≡ levelsWord (now pool)) × (length (now slots) ≡ levelsWord (now pool)) ⌝ }
     ensures { λ r. ⌜ Adds key value (now (pool .entry)) (now (pool .exit)) r ⌝ }
 {
@@ -79,7 +80,7 @@ fn add_by(pool: &mut [u64], key: u64, value: u64, pages: &mut [usize], slots: &m
 
 // The entry of a key that has none.
 pub fn add(pool: &mut [u64], key: u64, value: u64) -> Added
-    requires { ⌜ headed (now pool) ≡ true ⌝ }
+    requires { ⌜ Changeable (now pool) ⌝ }
     ensures { λ r. ⌜ Adds key value (now (pool .entry)) (now (pool .exit)) r ⌝ }
 {
     let levels = lend::head::levels(pool);
@@ -95,7 +96,7 @@ pub fn add(pool: &mut [u64], key: u64, value: u64) -> Added
 }
 
 fn strike_by(pool: &mut [u64], key: u64, pages: &mut [usize], slots: &mut [usize]) -> Struck
-    requires { ⌜ headed (now pool) ≡ true ⌝ }
+    requires { ⌜ Changeable (now pool) ⌝ }
     requires { ⌜ (length (now pages) ≡ levelsWord (now pool)) × (length (now slots) ≡ levelsWord (now pool)) ⌝ }
     ensures { λ r. ⌜ Strikes key (now (pool .entry)) (now (pool .exit)) r ⌝ }
 {
@@ -114,7 +115,7 @@ fn strike_by(pool: &mut [u64], key: u64, pages: &mut [usize], slots: &mut [usize
 
 // A key's entry goes.
 pub fn strike(pool: &mut [u64], key: u64) -> Struck
-    requires { ⌜ headed (now pool) ≡ true ⌝ }
+    requires { ⌜ Changeable (now pool) ⌝ }
     ensures { λ r. ⌜ Strikes key (now (pool .entry)) (now (pool .exit)) r ⌝ }
 {
     let levels = lend::head::levels(pool);

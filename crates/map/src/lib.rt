@@ -1,6 +1,7 @@
-// Map and set: the calls of BTreeMap and BTreeSet on a lent pool. A map's own calls stand here; a set's are in `set`, lists in `list`, and what both kinds share in `pool`. Every call takes
-// any words and any numbers: it tests the length and the head first, refuses in document 01's order, and a refusal has changed no word.
-ghost use Rattle.model.specs.Call.{Meets};
+// Map and set: the calls of BTreeMap and BTreeSet on a lent pool. A map's own calls stand here; a set's are in `set`,
+// lists in `list`, and what both kinds share in `pool`. Every call takes any words and any numbers: it tests the length
+// and the head first, refuses in document 01's order, and a refusal has changed no word.
+ghost use Rattle.model.specs.Call.{Meets, ReadsPages};
 ghost use Rattle.model.specs.MapCalls.{mapInsert, mapGet, mapContains, mapReplace, mapRemove};
 ghost use Rattle.map.specs.Answers.{insertedOf, gotOf, containedOf, replacedOf, removedOf};
 
@@ -71,7 +72,7 @@ pub fn insert(pool: &mut [u64], key: u64, value: u64) -> Inserted
 
 // The value of a key.
 pub fn get(pool: &[u64], key: u64) -> Got
-    ensures { λ r. ⌜ Meets (mapGet key) (now (pool .entry)) (now (pool .entry)) (gotOf r) ⌝ }
+    ensures { λ r. ⌜ ReadsPages (mapGet key) (λ f. f .read) (now (pool .entry)) (now (pool .entry)) (gotOf r) ⌝ }
 {
     match refusal::reading(pool, MAP) {
         Early::Refused(n) => return Got::Refused(n),
@@ -86,7 +87,7 @@ pub fn get(pool: &[u64], key: u64) -> Got
 
 // Whether the key is there.
 pub fn contains(pool: &[u64], key: u64) -> Contained
-    ensures { λ r. ⌜ Meets (mapContains key) (now (pool .entry)) (now (pool .entry)) (containedOf r) ⌝ }
+    ensures { λ r. ⌜ ReadsPages (mapContains key) (λ f. f .read) (now (pool .entry)) (now (pool .entry)) (containedOf r) ⌝ }
 {
     match get(pool, key) {
         Got::Value(_, read) => Contained::Present(read),

@@ -132,7 +132,7 @@ fn span(
 }
 
 // The list of a pool of a kind, between two bounds, at most `most` entries; a slice that is not asked for is empty.
-pub fn fill(
+fn fill(
     pool: &[u64],
     kind: u64,
     lower: u64,
@@ -158,6 +158,33 @@ pub fn fill(
     span(pool, start, end, most, keys, values)
 }
 
+// The keys of a pool of a kind: a map's, and a set's list.
+pub fn keys_of(
+    pool: &[u64],
+    kind: u64,
+    lower: u64,
+    from: u64,
+    upper: u64,
+    to: u64,
+    keys: &mut [u64],
+) -> Listed
+    ensures { λ r. ⌜ Lists (listTests kind lower upper (now (pool .entry))) (boundOf lower from) (boundOf upper to) (now (pool .entry)) (keyColumn (now (keys .entry)) (now (keys .exit)) ∷ []) (listedOf r) ⌝ }
+{
+    let most = keys.len();
+    let mut none = [0u64; 1];
+    fill(
+        pool,
+        kind,
+        lower,
+        from,
+        upper,
+        to,
+        most,
+        keys,
+        &mut none[0..0],
+    )
+}
+
 // ---- the map's lists
 
 pub fn entries(
@@ -181,19 +208,7 @@ pub fn entries(
 pub fn keys(pool: &[u64], lower: u64, from: u64, upper: u64, to: u64, keys: &mut [u64]) -> Listed
     ensures { λ r. ⌜ Lists (listTests mapKind lower upper (now (pool .entry))) (boundOf lower from) (boundOf upper to) (now (pool .entry)) (keyColumn (now (keys .entry)) (now (keys .exit)) ∷ []) (listedOf r) ⌝ }
 {
-    let most = keys.len();
-    let mut none = [0u64; 1];
-    fill(
-        pool,
-        MAP,
-        lower,
-        from,
-        upper,
-        to,
-        most,
-        keys,
-        &mut none[0..0],
-    )
+    keys_of(pool, MAP, lower, from, upper, to, keys)
 }
 
 pub fn values(

@@ -1,16 +1,11 @@
-// The calls that take a pool of either kind: make, clear, count, is-empty, copy, check. Make, clear and copy are exact
-// on any words, sound or not.
+// The calls that take a pool of either kind: make, clear, count, is-empty, copy, check. All but check look at lengths
+// and head alone, and are exact on any words, sound or not.
 ghost use mathlib.Core.Path.{_≡_};
 ghost use mathlib.Core.Bool.{true};
-ghost use Prim.Native.Nat.{_≤_};
 ghost use lib.ListN.{length};
-ghost use Rattle.model.specs.Lists.{tab};
-ghost use Rattle.model.specs.Layout.{allowed, pagesIn, today};
-ghost use Rattle.model.specs.Head.{geometryOf, kindWord};
-ghost use Rattle.model.specs.Pool.{made};
-ghost use Rattle.model.specs.Written.{Written};
-ghost use Rattle.model.specs.Call.{Meets};
-ghost use Rattle.model.specs.PoolCalls.{Makes, makeTests, clearTests, Copies, Checks, poolCount, poolIsEmpty};
+ghost use Rattle.model.specs.Basics.{zeros};
+ghost use Rattle.model.specs.Layout.{allowed, today};
+ghost use Rattle.model.specs.PoolCalls.{fresh, Makes, Clears, Counts, TellsEmpty, Copies, Checks};
 ghost use Rattle.map.specs.Answers.{answerOf, countedOf, emptyOf, checkedOf};
 use crate::refusal::Refusal;
 use model::COUNT;
@@ -41,7 +36,7 @@ pub enum Checked {
 }
 
 fn zero(words: &mut [u64])
-    ensures { λ _. ⌜ now (words .exit) ≡ tab (length (now (words .entry))) (λ _. 0) ⌝ }
+    ensures { λ _. ⌜ now (words .exit) ≡ zeros (length (now (words .entry))) ⌝ }
 {
     let n = words.len();
     let mut i: usize = 0;
@@ -53,8 +48,8 @@ fn zero(words: &mut [u64])
 
 // A pool just made, whatever the words were; its pages keep theirs.
 fn lay(pool: &mut [u64], kind: u64)
-    requires { ⌜ (allowed today (length (now pool)) ≡ true) × (kind ≤ 1) ⌝ }
-    ensures { λ _. ⌜ Written (now (pool .exit)) (made today (pagesIn today (length (now (pool .entry)))) kind) ⌝ }
+    requires { ⌜ allowed today (length (now pool)) ≡ true ⌝ }
+    ensures { λ _. ⌜ now (pool .exit) ≡ fresh today kind (now (pool .entry)) ⌝ }
 {
     let pages = lend::bits::pages_in(pool);
     zero(&mut pool[0..FIRST_PAGE]);
@@ -65,7 +60,7 @@ fn lay(pool: &mut [u64], kind: u64)
 
 // A new pool of a kind, in any words of a length that is allowed.
 pub fn make(pool: &mut [u64], kind: u64) -> Answer
-    ensures { λ r. ⌜ Makes (makeTests kind (now (pool .entry))) today kind (now (pool .entry)) (now (pool .exit)) (answerOf r) ⌝ }
+    ensures { λ r. ⌜ Makes kind (now (pool .entry)) (now (pool .exit)) (answerOf r) ⌝ }
 {
     if !lend::head::allowed(pool.len()) {
         return Answer::Refused(Refusal::Unfit);
@@ -79,7 +74,7 @@ pub fn make(pool: &mut [u64], kind: u64) -> Answer
 
 // The same pool with no entry; it keeps its kind.
 pub fn clear(pool: &mut [u64]) -> Answer
-    ensures { λ r. ⌜ Makes (clearTests (now (pool .entry))) (geometryOf (now (pool .entry))) (kindWord (now (pool .entry))) (now (pool .entry)) (now (pool .exit)) (answerOf r) ⌝ }
+    ensures { λ r. ⌜ Clears (now (pool .entry)) (now (pool .exit)) (answerOf r) ⌝ }
 {
     if !lend::head::fits(pool) {
         return Answer::Refused(Refusal::Unfit);
@@ -93,7 +88,7 @@ pub fn clear(pool: &mut [u64]) -> Answer
 }
 
 pub fn count(pool: &[u64]) -> Counted
-    ensures { λ r. ⌜ Meets poolCount (now (pool .entry)) (now (pool .entry)) (countedOf r) ⌝ }
+    ensures { λ r. ⌜ Counts (now (pool .entry)) (now (pool .entry)) (countedOf r) ⌝ }
 {
     if !lend::head::fits(pool) {
         return Counted::Refused(Refusal::Unfit);
@@ -103,7 +98,7 @@ pub fn count(pool: &[u64]) -> Counted
 }
 
 pub fn is_empty(pool: &[u64]) -> Empty
-    ensures { λ r. ⌜ Meets poolIsEmpty (now (pool .entry)) (now (pool .entry)) (emptyOf r) ⌝ }
+    ensures { λ r. ⌜ TellsEmpty (now (pool .entry)) (now (pool .entry)) (emptyOf r) ⌝ }
 {
     if !lend::head::fits(pool) {
         return Empty::Refused(Refusal::Unfit);

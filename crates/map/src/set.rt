@@ -2,7 +2,7 @@
 ghost use mathlib.Core.List.{[], _∷_};
 ghost use Rattle.model.specs.Bound.{boundOf};
 ghost use Rattle.model.specs.Refusal.{setKind};
-ghost use Rattle.model.specs.Call.{Meets};
+ghost use Rattle.model.specs.Call.{Meets, ReadsPages};
 ghost use Rattle.model.specs.SetCalls.{setInsert, setGet, setContains, setRemove};
 ghost use Rattle.model.specs.ListCalls.{keyColumn, Lists, listTests};
 ghost use Rattle.map.specs.Answers.{setInsertedOf, setGotOf, containedOf, setRemovedOf, listedOf};
@@ -55,7 +55,7 @@ pub fn insert(pool: &mut [u64], key: u64) -> Inserted
 
 // The set's own key.
 pub fn get(pool: &[u64], key: u64) -> Got
-    ensures { λ r. ⌜ Meets (setGet key) (now (pool .entry)) (now (pool .entry)) (setGotOf r) ⌝ }
+    ensures { λ r. ⌜ ReadsPages (setGet key) (λ f. f .read) (now (pool .entry)) (now (pool .entry)) (setGotOf r) ⌝ }
 {
     match contains(pool, key) {
         Contained::Present(read) => Got::Key(key, read),
@@ -66,7 +66,7 @@ pub fn get(pool: &[u64], key: u64) -> Got
 
 // Whether the key is there.
 pub fn contains(pool: &[u64], key: u64) -> Contained
-    ensures { λ r. ⌜ Meets (setContains key) (now (pool .entry)) (now (pool .entry)) (containedOf r) ⌝ }
+    ensures { λ r. ⌜ ReadsPages (setContains key) (λ f. f .read) (now (pool .entry)) (now (pool .entry)) (containedOf r) ⌝ }
 {
     match refusal::reading(pool, SET) {
         Early::Refused(n) => return Contained::Refused(n),
@@ -97,17 +97,5 @@ pub fn remove(pool: &mut [u64], key: u64) -> Removed
 pub fn list(pool: &[u64], lower: u64, from: u64, upper: u64, to: u64, keys: &mut [u64]) -> Listed
     ensures { λ r. ⌜ Lists (listTests setKind lower upper (now (pool .entry))) (boundOf lower from) (boundOf upper to) (now (pool .entry)) (keyColumn (now (keys .entry)) (now (keys .exit)) ∷ []) (listedOf r) ⌝ }
 {
-    let most = keys.len();
-    let mut none = [0u64; 1];
-    list::fill(
-        pool,
-        SET,
-        lower,
-        from,
-        upper,
-        to,
-        most,
-        keys,
-        &mut none[0..0],
-    )
+    list::keys_of(pool, SET, lower, from, upper, to, keys)
 }

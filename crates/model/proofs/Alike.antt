@@ -7,8 +7,8 @@ use Prim.Native.Nat.{ℕ, zero, suc, _+_, _<_}
 use native.Mathlib.Omega.{arith}
 use lib.ListN.{length, take, drop, getD, length-take, length-drop, List·getD-eq-default}
 use lib.Seq.{take-add, getD-take, getD-drop, ext-getD}
-use Rattle.model.specs.Lists.{sum, All}
-use Rattle.model.specs.Layout.{headWords, mapWords, firstWord, word, Words}
+use Rattle.model.specs.Basics.{sum, All}
+use Rattle.model.specs.Layout.{headWords, mapWords, firstWord, word}
 use Rattle.model.specs.Head.{geometryOf, leastOf}
 use Rattle.model.specs.PageMap.{mapAt}
 use Rattle.model.specs.Tree.{Tree, times, meets}
@@ -17,9 +17,9 @@ use Rattle.model.specs.Standing.{Standing, Stands}
 use Rattle.model.specs.Pool.{Pool, poolOf}
 use Rattle.model.specs.Sound.{Sound}
 use Rattle.model.specs.Written.{Written}
-use Rattle.model.specs.Alike.{AlikePage, Alike}
+use Rattle.model.specs.Alike.{AlikePage, Alike, Words}
 use Rattle.model.proofs.Cases.{either-eq, either-lt, same-other}
-use Rattle.model.proofs.Lists.{getD-tab}
+use Rattle.model.proofs.Basics.{getD-tab}
 use Rattle.model.proofs.PageMap.{map-ext}
 use Rattle.model.proofs.Written.{sound-written}
 

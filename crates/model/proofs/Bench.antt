@@ -1,13 +1,13 @@
 -- Document 01's bench cases (a) to (n), by computation.
 -- Assumes nothing.
 use mathlib.Core.Path.{refl}
-use Rattle.model.specs.Lists.{same}
+use Rattle.model.specs.Basics.{same}
 use Rattle.model.specs.Layout.{allowed}
 use Rattle.model.specs.PageMap.{freeFrom, freePages}
 use Rattle.model.specs.Tree.{entries, times, held, meets}
 use Rattle.model.specs.Entries.{has, lookup, gapOf, keyFits}
 use Rattle.model.specs.Insert.{fit, put, insertAt, top, insert, run, needed}
-use Rattle.model.specs.Mend.{fromRight, repair, plan, mend, spare}
+use Rattle.model.specs.Mend.{fromRight, repair, plan, mend}
 use Rattle.model.specs.Remove.{step, removeAt, collapse, removeIn, remove}
 use Rattle.model.specs.Write.{writeAt, write}
 use Rattle.model.specs.Pool.{freeOf}
@@ -15,8 +15,9 @@ use Rattle.model.specs.MapCalls.{file, noRoom, strike}
 use Rattle.model.specs.Bench.{Table, Lengths}
 
 pub table : Table
-unfolding same freeFrom freePages entries times held meets has lookup gapOf keyFits fit put insertAt top insert run needed fromRight repair plan mend spare step removeAt collapse removeIn remove writeAt write freeOf file noRoom strike
+unfolding same freeFrom freePages entries times held meets has lookup gapOf keyFits fit put insertAt top insert run needed fromRight repair plan mend step removeAt collapse removeIn remove writeAt write freeOf file noRoom strike
 table = record {
+  tens-room = refl;
   a = refl;
   b = refl;
   c = refl;

@@ -10,14 +10,14 @@ use native.Mathlib.Omega.{arith}
 use lib.Dec.{ltb}
 use lib.ListN.{length}
 use Rattle.model.specs.Tree.{Entry, noEntry, entry}
-use Rattle.model.specs.Entries.{has, filed, removed, shut, gapBefore, keyFits, gap, back, forth, gapOf, replaced}
+use Rattle.model.specs.Entries.{has, shut, gapBefore, keyFits, gap, back, forth, gapOf}
 use Rattle.model.specs.Write.{write}
 use Rattle.model.specs.Pool.{Pool, heldBy, gapBy, withWhole, freshOf, withCursor, leastBy}
 use Rattle.model.specs.MapCalls.{file, strike, noRoom, crowded, putAt}
 use Rattle.model.specs.CursorCalls.{rewrite, nextOf, prevOf, strikeNext}
 use Rattle.model.proofs.Cases.{either, either-lt, either-zero}
-use Rattle.model.proofs.Lists.{next-some, next-none}
-use Rattle.model.proofs.Entries.{keyAt, has-key, gap-le, absent-fits}
+use Rattle.model.proofs.Basics.{next-some, next-none}
+use Rattle.model.proofs.Entries.{filed, removed, replaced, keyAt, has-key, gap-le, absent-fits}
 use Rattle.model.proofs.Insert.{insert-held}
 use Rattle.model.proofs.Remove.{remove-held}
 use Rattle.model.proofs.Write.{write-held}

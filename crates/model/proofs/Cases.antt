@@ -8,7 +8,7 @@ use Prim.Native.Nat.{ℕ, zero, suc, _≤_, _<_}
 use native.Mathlib.Omega.{arith}
 use lib.Dec.{leb, ltb, eqb}
 use borrow.Author.Tests.{leb-true, leb-false, ltb-true, ltb-false, eqb-true, eqb-false, eq-eqb, ne-eqb}
-use Rattle.model.specs.Lists.{same}
+use Rattle.model.specs.Basics.{same}
 
 module _ {ℓ} {C : Type ℓ} where
   pub either-le : (a b : ℕ) → (a ≤ b → C) → (b < a → C) → C

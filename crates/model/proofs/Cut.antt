@@ -1,16 +1,17 @@
--- One page cut in two at entry n: nothing is lost, each page is met as often as before and page q once more, and both halves are as full as
--- the cut leaves them. Splits and mendings both cut so. Over a function `f` that says what is below a child, so no levels occur here.
+-- One page cut in two at entry n: nothing is lost, each page is met as often as before and page q once more, and both
+-- halves are as full as the cut leaves them. Splits and mendings both cut so. Over a function `f` that says what is
+-- below a child, so no levels occur here.
 -- Assumes nothing.
 use mathlib.Core.Path.{_≡_}
 use mathlib.Core.List.{List, _∷_, _++_}
 use Prim.Native.Nat.{ℕ, suc, _+_, _≤_, _<_}
 use native.Mathlib.Omega.{arith}
 use lib.ListN.{length, getD, length-take, length-drop}
-use Rattle.model.specs.Lists.{same, All}
+use Rattle.model.specs.Basics.{same, All}
 use Rattle.model.specs.Layout.{mostEntries}
 use Rattle.model.specs.Tree.{Entry, Node, noEntry, holds, passes, Filled}
 use Rattle.model.specs.Insert.{cutLeft, cutRight}
-use Rattle.model.proofs.Lists.{all-take, all-drop}
+use Rattle.model.proofs.Basics.{all-take, all-drop}
 use Rattle.model.proofs.Sums.{sum-cut}
 use Rattle.model.proofs.Weave.{weave-cut-at}
 

@@ -1,5 +1,6 @@
--- Laws of the list model: where the gap of a key or a bound lies among rising entries, which keys are there, and what keeps entries rising.
--- A test `before` that falls (true up to some key, false from there on) stands for keys and bounds alike. No trees here.
+-- Laws of the list model: where the gap of a key or a bound lies among rising entries, which keys are there, and what
+-- keeps entries rising. A test `before` that falls (true up to some key, false from there on) stands for keys and
+-- bounds alike. No trees here.
 -- Assumes nothing.
 use mathlib.Core.Path.{_≡_, refl, sym, ap, _∙_}
 use mathlib.Core.Bool.{Bool, true, false, cond}
@@ -12,13 +13,26 @@ use lib.Dec.{leb, ltb, eqb, leb·suc-suc}
 use lib.ListN.{length, take, drop, getD, set, length-take, length-drop, take-append-drop}
 use lib.Seq.{getD-take, getD-drop, drop-nil}
 use borrow.Author.Tests.{le-leb, lt-leb, lt-ltb, le-ltb, eq-eqb, ne-eqb, leb-true, ltb-true, ltb-false, eqb-true}
-use Rattle.model.specs.Lists.{ins, del, those, All}
+use Rattle.model.specs.Basics.{ins, del, those, All}
 use Rattle.model.specs.Tree.{Entry, noEntry, Rising}
 use Rattle.model.specs.Bound.{Bound, included, excluded, unbounded, beforeLower, beforeUpper}
 use Rattle.model.specs.Entries.{has, lookup, gapOf, gapBefore, gapAfter, between, next, prev, above, under, keyFits}
-use Rattle.model.specs.Gap.{at}
+use Rattle.model.specs.Search.{at}
 use Rattle.model.proofs.Cases.{either, either-lt, either-eq, never, contrary}
-use Rattle.model.proofs.Lists.{all-append, all-left, all-right, all-take, all-drop, all-at, all-map, all-of, next-some, next-none, every-true}
+use Rattle.model.proofs.Basics.{all-append, all-left, all-right, all-take, all-drop, all-at, all-map, all-of, next-some, next-none, every-true}
+
+-- ---- what insert, replace and remove leave, on lists
+
+unfoldable pub filed : Entry → List Entry → List Entry
+filed e es =
+    let g = gapBefore (e .key) es in
+    cond (has (e .key) es) (set es g e) (ins g e es)
+
+unfoldable pub replaced : Entry → List Entry → List Entry
+replaced e es = cond (has (e .key) es) (set es (gapBefore (e .key) es) e) es
+
+unfoldable pub removed : ℕ → List Entry → List Entry
+removed k es = cond (has k es) (del (gapBefore k es) es) es
 
 -- ---- tests that fall
 
@@ -186,6 +200,16 @@ at-true k es i h =
     either-lt i (length es)
     (λ l. (l, eqb-true (keyAt es i) k (rw (lt-ltb i (length es) l) at h)))
     (λ l. let z = rw (le-ltb i (length es) l) at h in never (cc))
+
+-- an entry at a slot is one of the entries
+has-in : (k : ℕ) (es : List Entry) (i : ℕ) → i < length es → getD es i noEntry .key ≡ k → has k es ≡ true
+unfolding has
+has-in k [] i b same = absurd (omega arith)
+has-in k (e ∷ es) zero b same = rw (eq-eqb (e .key) k same)
+has-in k (e ∷ es) (suc i) b same = either (eqb (e .key) k) (λ y. rw y) (λ n. rw n (has-in k es i (omega arith) same))
+
+pub has-slot : (k : ℕ) (es : List Entry) (i : ℕ) → at k es i ≡ true → has k es ≡ true
+has-slot k es i h = let a = at-true k es i h in has-in k es i (a .0) (a .1)
 
 pub has-key : (k : ℕ) (es : List Entry) → Rising es → has k es ≡ true → (gapBefore k es < length es) × (getD es (gapBefore k es) noEntry .key ≡ k)
 has-key k es r h = at-true k es (gapBefore k es) (sym (has-at k es r) ∙ h)

@@ -1,5 +1,5 @@
--- A gap lies in one child of a page, at one of that child's gaps, and in no other. Over a function `f` that says what a child holds; then of trees.
--- And the pages that the gap's path meets are the tree's.
+-- A gap lies in one child of a page, at one of that child's gaps, and in no other. Over a function `f` that says what a
+-- child holds; then of trees. And the pages that the gap's path meets are the tree's.
 -- Assumes nothing.
 use mathlib.Core.Path.{_≡_, sym, ap, ap₂, _∙_, refl}
 use mathlib.Core.List.{List, [], _∷_, _++_}
@@ -8,11 +8,12 @@ use native.Mathlib.Omega.{arith}
 use lib.ListN.{length, take, drop, getD, length-append, List·getD-append}
 use lib.Seq.{drop-cons, getD-at, getD-append-add}
 use borrow.Author.Tests.{le-leb, lt-leb}
-use Rattle.model.specs.Lists.{ins, sum, same}
+use Rattle.model.specs.Basics.{ins, sum, same}
 use Rattle.model.specs.Tree.{Tree, noTree, weave, entries, size, times, Shaped, Entry}
-use Rattle.model.specs.Gap.{slot, rest, slotAt, restAt, child, childAt, gapPages}
+use Rattle.model.specs.Gap.{slot, rest, slotAt, restAt, child, childAt}
+use Rattle.model.specs.Path.{gapPages}
 use Rattle.model.proofs.Cases.{either-le, same-self}
-use Rattle.model.proofs.Lists.{ins-inside, all-at}
+use Rattle.model.proofs.Basics.{ins-inside, all-at}
 use Rattle.model.proofs.Sums.{sum-at}
 use Rattle.model.proofs.Weave.{left, right, weave-at, length-weave}
 

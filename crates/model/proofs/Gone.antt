@@ -1,5 +1,6 @@
--- A list that has lost the entry after a gap, or its last where the gap is its end; and the law of removal at a page: to take away the entry after a gap
--- of what a page holds is to do so in the gap's child, whose greatest entry takes the place of the page's own entry where that is the one that goes.
+-- A list that has lost the entry after a gap, or its last where the gap is its end; and the law of removal at a page:
+-- to take away the entry after a gap of what a page holds is to do so in the gap's child, whose greatest entry takes
+-- the place of the page's own entry where that is the one that goes.
 -- Assumes nothing.
 use mathlib.Core.Path.{_≡_, refl, sym, ap, _∙_}
 use mathlib.Core.List.{List, [], _∷_, _++_}
@@ -7,7 +8,7 @@ use Prim.Native.Nat.{ℕ, zero, suc, _-_, _≤_, _<_}
 use native.Mathlib.Omega.{arith}
 use lib.ListN.{length, take, getD, set, length-append}
 use borrow.Author.Tests.{le-leb, lt-leb}
-use Rattle.model.specs.Lists.{All, del, final}
+use Rattle.model.specs.Basics.{All, del, final}
 use Rattle.model.specs.Tree.{Entry, noEntry, weave}
 use Rattle.model.specs.Gap.{slot, rest}
 use Rattle.model.specs.Remove.{gone, heir}

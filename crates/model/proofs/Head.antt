@@ -9,10 +9,11 @@ use native.Mathlib.Omega.{arith}
 use lib.Dec.{eqb}
 use lib.ListN.{length, drop, take}
 use borrow.Author.Tests.{leb-true, le-leb, eqb-true, eqb-false, eq-eqb, ne-eqb, not-true}
-use Rattle.model.specs.Lists.{tab, All, every}
+use Rattle.model.specs.Basics.{tab, All, every}
 use Rattle.model.specs.Layout.{headWords, mostPages, mostLevels, mostEntries, firstWord, allowed, word, lengthTests}
 use Rattle.model.specs.Head.{geometryOf, leastOf, pageCount, countWord, rootWord, levelsWord, openWord, afterWord, kindWord, fits, headed, bothOrNeither, headTests}
-use Rattle.model.proofs.Lists.{all-append, all-right, every-all, every-true, every-append}
+use Rattle.model.proofs.Cases.{either, contrary}
+use Rattle.model.proofs.Basics.{all-append, all-right, every-all, every-true, every-append}
 
 -- P, the number of pages, is `pageCount w`
 pub record HeadFacts (w : List ℕ) : Type 0 where
@@ -101,3 +102,7 @@ head-fits w f =
         true-zeros (headWords - 9) (λ k. word w (9 + k)) (λ k l. f .spare (9 + k) (omega arith) (omega arith)),
       ),
     ))
+
+pub headed-sized : (w : List ℕ) → headed w ≡ true → allowed (geometryOf w) (length w) ≡ true
+unfolding headed
+headed-sized w = either (allowed (geometryOf w) (length w)) (λ y e. y) (λ n. rw n (λ e. contrary e refl))

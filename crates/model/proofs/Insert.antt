@@ -1,6 +1,6 @@
--- Insertion at a gap: the entries after are those before with the new one at the gap, the pages met are those before and the fresh ones that the
--- insertion needs, the tree stays formed, its root keeps its page, and it has a level more exactly where the root split.
--- First of one page, over any type of child; then of trees; then of the whole tree.
+-- Insertion at a gap: the entries after are those before with the new one at the gap, the pages met are those before
+-- and the fresh ones that the insertion needs, the tree stays formed, its root keeps its page, and it has a level more
+-- exactly where the root split. First of one page, over any type of child; then of trees; then of the whole tree.
 -- Assumes nothing.
 use mathlib.Core.Path.{_≡_, refl, sym, ap, _∙_}
 use mathlib.Core.Bool.{cond}
@@ -11,14 +11,15 @@ use lib.Dec.{eqb}
 use lib.ListN.{length, take, drop, getD, length-append, length-take, length-drop}
 use lib.Seq.{take-nil, drop-nil}
 use borrow.Author.Tests.{le-leb, lt-leb, eq-eqb, ne-eqb}
-use Rattle.model.specs.Lists.{ins, sumTo, same, All}
+use Rattle.model.specs.Basics.{ins, same, All}
+use Rattle.model.specs.Sums.{sumTo}
 use Rattle.model.specs.Layout.{mostEntries}
 use Rattle.model.specs.Tree.{Entry, Node, Tree, Whole, noTree, holds, entries, size, passes, times, Filled, Shaped, held, meets, Formed}
 use Rattle.model.specs.Standing.{rootOf}
 use Rattle.model.specs.Gap.{slotAt, restAt, childAt}
 use Rattle.model.specs.Insert.{Up, whole, split, fit, grown, put, insertAt, top, insert, onward, run, needed, kept}
 use Rattle.model.proofs.Cases.{either-le, either-eq}
-use Rattle.model.proofs.Lists.{length-ins, all-splice}
+use Rattle.model.proofs.Basics.{length-ins, all-splice}
 use Rattle.model.proofs.Sums.{sum-splice}
 use Rattle.model.proofs.Weave.{left, right, weave-one, weave-two}
 use Rattle.model.proofs.Gap.{located-ins, way-down, child-shaped, slot-le}

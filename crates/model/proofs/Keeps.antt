@@ -1,4 +1,5 @@
--- No call leaves a pool that is not right: of a sound pool, and where the call is not refused, what it leaves is right again. One line a call. (Make and clear: `right-made`; copy: Copy.)
+-- No call leaves a pool that is not right: of a sound pool, and where the call is not refused, what it leaves is right
+-- again. One line a call. (Make and clear: `right-made`; copy: Copy.)
 -- Assumes nothing.
 use mathlib.Core.Path.{_≡_, refl}
 use mathlib.Core.Bool.{Bool, true, false, not, cond}
@@ -13,11 +14,11 @@ use Rattle.model.specs.Entries.{shut, keyFits, has}
 use Rattle.model.specs.Pool.{Pool, poolOf, cursorOf, gapBy, heldBy}
 use Rattle.model.specs.Sound.{Sound}
 use Rattle.model.specs.Refusal.{Test, mapKind, setKind}
-use Rattle.model.specs.Call.{Call, number}
-use Rattle.model.specs.PoolCalls.{reads}
+use Rattle.model.specs.Call.{Call, number, reads}
 use Rattle.model.specs.MapCalls.{mapInsert, noRoom, mapRemove, mapReplace, crowded}
 use Rattle.model.specs.SetCalls.{setInsert, setRemove}
-use Rattle.model.specs.CursorCalls.{cursorClose, cursorInsertAfter, cursorNext, cursorOpenLower, cursorOpenUpper, cursorPrev, cursorRemoveNext, cursorWriteNext, cursorWritePrev}
+use Rattle.model.specs.CursorCalls.{cursorInsertAfter, cursorNext, cursorOpenLower, cursorOpenUpper, cursorPrev, cursorRemoveNext, cursorWriteNext, cursorWritePrev}
+use Rattle.model.specs.HeadCalls.{cursorClose}
 use Rattle.model.proofs.Cases.{either}
 use Rattle.model.proofs.Head.{head-facts}
 use Rattle.model.proofs.Right.{sound-right, Right, right-shut}
@@ -106,12 +107,18 @@ keeps-write-next v w s e = write-next-right (poolOf w) (sound-right w s) (held-k
 pub keeps-write-prev : (v : ℕ) → Keeps (cursorWritePrev v)
 keeps-write-prev v w s e = write-prev-right (poolOf w) (sound-right w s) (held-kind w mapKind _ e .0) v
 
+-- the key fits at the gap, and the pages are there
+pub insert-fits : (k v : ℕ) (w : List ℕ) → number (cursorInsertAfter k v) w ≡ 0
+    → (keyFits k (gapBy (poolOf w)) (heldBy (poolOf w)) ≡ true) × (crowded (gapBy (poolOf w)) (poolOf w) ≡ false)
+insert-fits k v w e =
+    let b = passed (eqb (openWord w) 0) 5 _ (omega arith) (held-kind w mapKind _ e .1) in
+    let c = passed (not (keyFits k (gapBy (poolOf w)) (heldBy (poolOf w)))) 6 _ (omega arith) (b .1) in
+    (not-false _ (c .0), passed (crowded (gapBy (poolOf w)) (poolOf w)) 7 0 (omega arith) (c .1) .0)
+
 pub keeps-insert-after : (k v : ℕ) → Keeps (cursorInsertAfter k v)
 keeps-insert-after k v w s e =
-    let a = held-kind w mapKind _ e in
-    let b = passed (eqb (openWord w) 0) 5 _ (omega arith) (a .1) in
-    let c = passed (not (keyFits k (gapBy (poolOf w)) (heldBy (poolOf w)))) 6 _ (omega arith) (b .1) in
-    insert-after-right (poolOf w) (sound-right w s) (a .0) k v (not-false _ (c .0)) (passed (crowded (gapBy (poolOf w)) (poolOf w)) 7 0 (omega arith) (c .1) .0)
+    let f = insert-fits k v w e in
+    insert-after-right (poolOf w) (sound-right w s) (held-kind w mapKind _ e .0) k v (f .0) (f .1)
 
 pub keeps-remove-next : Keeps cursorRemoveNext
 keeps-remove-next w s e = remove-next-right (poolOf w) (sound-right w s) (held-kind w mapKind _ e .0)

@@ -13,7 +13,7 @@ use Rattle.model.specs.Layout.{today, pageWords, mostPages, firstWord, p
 use Rattle.model.specs.Lawful.{Lawful}
 use Rattle.model.specs.Head.{geometryOf}
 use Rattle.model.specs.PageMap.{mapAt}
-use Rattle.model.proofs.Lists.{every-true}
+use Rattle.model.proofs.Basics.{every-true}
 
 -- a length that is allowed
 pub allowed-facts : (γ : Geometry) (n : ℕ) → allowed γ n ≡ true → (1 ≤ pagesIn γ n) × (pagesIn γ n ≤ mostPages γ) × (n ≡ firstWord γ (pagesIn γ n))

@@ -1,6 +1,6 @@
 -- The laws of model's definitions. In general: cases, lists, sums.
 pub mod Cases
-pub mod Lists
+pub mod Basics
 pub mod Sums
 -- the page map, the bits of a word, geometries that are lawful, and the head
 pub mod PageMap
@@ -33,11 +33,16 @@ pub mod Calls
 pub mod Keeps
 -- the words that hold a pool, the pages reached by words alone, and what two pools that hold the same share
 pub mod Written
-pub mod Copy
+pub mod Cursorless
 pub mod Reached
 pub mod Alike
 -- how a call comes to meet its promise
 pub mod Meets
+-- the pages read
+pub mod Reading
+-- calls that look at the head alone, a pool just made among them
+pub mod Making
+pub mod HeadCalls
 -- any two outcomes agree
 pub mod Agree
 pub mod Unread
@@ -48,5 +53,6 @@ pub mod SourceMap
 pub mod SourceSet
 pub mod SourceList
 pub mod SourceCursor
--- the bench cases
+-- the bench cases, and the bodies that must be rejected
 pub mod Bench
+pub mod Wrong

@@ -1,5 +1,6 @@
--- How a call comes to meet its promise: the early tests first, and where none of them applies what is left to show. 6 and 7 come after every other number in document 01's order, so a
--- call that passes its early tests is given the number of its late ones.
+-- How a call comes to meet its promise: the early tests first, and where none of them applies what is left to show. 6
+-- and 7 come after every other number in document 01's order, so a call that passes its early tests is given the number
+-- of its late ones.
 -- Assumes nothing.
 use mathlib.Core.Path.{_≡_, refl, sym, ap, ap₂, subst, _∙_}
 use mathlib.Core.Bool.{Bool, true, false, not, cond}
@@ -10,19 +11,18 @@ use native.Mathlib.Omega.{arith}
 use lib.Dec.{eqb}
 use lib.ListN.{length}
 use borrow.Author.Tests.{eq-eqb, ne-eqb}
-use Rattle.model.specs.Lists.{All, every}
+use Rattle.model.specs.Basics.{All, every}
 use Rattle.model.specs.Head.{headed, kindWord, openWord}
 use Rattle.model.specs.Entries.{shut, gap}
 use Rattle.model.specs.Pool.{Pool, poolOf, cursorOf}
 use Rattle.model.specs.Sound.{Sound}
 use Rattle.model.specs.Written.{Written}
 use Rattle.model.specs.Refusal.{Test, refusal, names, applies, firstOf}
-use Rattle.model.specs.Call.{Call, Outcome, refused, answered, given, left, number, Meets}
-use Rattle.model.specs.PoolCalls.{reads}
+use Rattle.model.specs.Call.{Call, Outcome, refused, answered, given, left, number, Meets, reads}
 use Rattle.model.specs.MapCalls.{readTests, changeTests}
 use Rattle.model.specs.CursorCalls.{cursorTests}
 use Rattle.model.proofs.Cases.{either, either-eq, never, contrary}
-use Rattle.model.proofs.Lists.{every-true}
+use Rattle.model.proofs.Basics.{every-true}
 use Rattle.model.proofs.Head.{head-facts}
 use Rattle.model.proofs.Right.{Right, sound-right}
 use Rattle.model.proofs.Keeps.{Keeps, of-kind, shut-there, keeps-reads}
@@ -207,7 +207,8 @@ meets-read tests answer {w} staged pass exact =
 pub passes-reading : (kind : ℕ) (w : List ℕ) → refusal (readTests kind w) ≡ 0 → (headed w ≡ true) × (kindWord w ≡ kind)
 passes-reading kind w e = let a = of-kind w kind 0 e in (a .0, a .1)
 
--- what refuses a call that reads refuses it whatever tests follow; and past those the number is that of the tests that follow
+-- what refuses a call that reads refuses it whatever tests follow; and past those the number is that of the tests that
+-- follow
 module _ (kind : ℕ) (w : List ℕ) (rest : ℕ) where
   pub reading-first : (n : ℕ) → 1 ≤ n → n ≡ refusal (readTests kind w) → n ≡ cond (not (headed w)) 1 (cond (not (eqb (kindWord w) kind)) 2 rest)
   reading-first n some =

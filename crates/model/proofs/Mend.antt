@@ -1,5 +1,6 @@
--- One mending of a page's child that has an entry too few: what the page holds stays, the pages met stay but for the one that is freed, and the page and
--- its children are filled again. Over any type S of what hangs below the two neighbours, so no levels occur here.
+-- One mending of a page's child that has an entry too few: what the page holds stays, the pages met stay but for the
+-- one that is freed, and the page and its children are filled again. Over any type S of what hangs below the two
+-- neighbours, so no levels occur here.
 -- Assumes nothing.
 use mathlib.Core.Path.{_≡_, refl, sym, ap, ap₂, _∙_}
 use mathlib.Core.List.{List, _∷_, _++_}
@@ -8,13 +9,14 @@ use native.Mathlib.Omega.{arith}
 use lib.ListN.{length, take, drop, getD, length-append, length-take, length-drop}
 use lib.Seq.{split-at}
 use borrow.Author.Tests.{le-leb, lt-leb, lt-ltb, le-ltb}
-use Rattle.model.specs.Lists.{sum, same, All}
+use Rattle.model.specs.Basics.{sum, same, All}
 use Rattle.model.specs.Layout.{mostEntries}
 use Rattle.model.specs.Tree.{Entry, Node, noEntry, noNode, weave, holds, passes, Filled}
 use Rattle.model.specs.Insert.{cutLeft, cutRight}
-use Rattle.model.specs.Mend.{Plan, keep, move, join, fromRight, repair, plan, glue, nodeAt, count, pair, mend, spare}
+use Rattle.model.specs.Mend.{Plan, keep, move, join, fromRight, repair, plan, glue, nodeAt, count, pair, mend}
+use Rattle.model.specs.Freed.{spare}
 use Rattle.model.proofs.Cases.{either-le, either-lt}
-use Rattle.model.proofs.Lists.{split-two, all-append, all-last, all-first, all-around}
+use Rattle.model.proofs.Basics.{split-two, all-append, all-last, all-first, all-around}
 use Rattle.model.proofs.Sums.{sum-append}
 use Rattle.model.proofs.Weave.{weave-cut, weave-under, weave-join}
 use Rattle.model.proofs.Cut.{cut-holds, cut-passes, cut-left-filled, cut-right-filled}

@@ -9,15 +9,23 @@ use native.Mathlib.Nat.{pow-zero, pow-succ', pow-le-pow-right, mul-le-mul-left, 
 use native.Mathlib.Omega.{arith}
 use lib.ListN.{length}
 use Rattle.model.specs.declared.Geometry.{Geometry}
-use Rattle.model.specs.Lists.{sum, sumTo, same}
+use Rattle.model.specs.Basics.{sum, same}
+use Rattle.model.specs.Sums.{sumTo}
 use Rattle.model.specs.Layout.{mostPages, mostLevels, mostEntries}
 use Rattle.model.specs.Lawful.{Lawful}
-use Rattle.model.specs.Tree.{Tree, Whole, entries, size, times, Shaped, held, Formed, pagesBelow, pagesOf}
+use Rattle.model.specs.Tree.{Tree, Whole, entries, size, times, Shaped, held, Formed}
 use Rattle.model.proofs.Cases.{either-le, either-lt, same-self}
 use Rattle.model.proofs.Sums.{sumTo-none, sum-const, sum-times, sumTo-plus, sum-le, sumTo-same}
 use Rattle.model.proofs.Gap.{size-suc}
 
 -- ---- the pages of a tree
+
+unfoldable pub pagesBelow : (h : ℕ) → Tree h → ℕ
+pagesBelow zero t = 0
+pagesBelow (suc h) t = suc (sum (pagesBelow h) (t .children))
+
+unfoldable pub pagesOf : Whole → ℕ
+pagesOf x = pagesBelow (x .levels) (x .tree)
 
 pub pages-some : (x : Whole) → 1 ≤ x .levels → 1 ≤ pagesOf x
 unfolding pagesOf pagesBelow

@@ -1,4 +1,5 @@
--- The bits of the page map, and the free pages: they are inside the pool, free, distinct, and lowest first; once some are taken the rest is left.
+-- The bits of the page map, and the free pages: they are inside the pool, free, distinct, and lowest first; once some
+-- are taken the rest is left.
 -- Assumes nothing.
 use mathlib.Core.Path.{_≡_, refl, sym, ap, ap₂, _∙_}
 use mathlib.Core.List.{List, _∷_}
@@ -10,11 +11,12 @@ use lib.ListN.{length, drop, getD, List·getD-eq-default}
 use lib.Pow.{shr-shr}
 use lib.Seq.{ext-getD}
 use borrow.Author.Tests.{eq-eqb, ne-eqb}
-use Rattle.model.specs.Lists.{sumTo, same, All}
-use Rattle.model.specs.Layout.{Words}
+use Rattle.model.specs.Basics.{same, All}
+use Rattle.model.specs.Sums.{sumTo}
+use Rattle.model.specs.Alike.{Words}
 use Rattle.model.specs.PageMap.{bit, bitAt, freeFrom, freePages}
 use Rattle.model.proofs.Cases.{either-eq, same-self, same-other, never}
-use Rattle.model.proofs.Lists.{all-at, all-map}
+use Rattle.model.proofs.Basics.{all-at, all-map}
 use Rattle.model.proofs.Sums.{sumTo-ext, sumTo-none, sumTo-once, sumTo-front}
 
 -- ---- bits

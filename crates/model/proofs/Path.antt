@@ -1,5 +1,5 @@
--- The path of a gap as code takes it, down to a leaf. Where the gap is a tree's end the path keeps to the last slots, and the leaf's last entry is
--- the tree's last: that is the heir which removal writes. And removal keeps page numbers.
+-- The path of a gap as code takes it, down to a leaf. Where the gap is a tree's end the path keeps to the last slots,
+-- and the leaf's last entry is the tree's last: that is the heir which removal writes. And removal keeps page numbers.
 -- Assumes nothing.
 use mathlib.Core.Path.{_≡_, refl, sym, ap, _∙_}
 use mathlib.Core.List.{List, [], _∷_, _++_}
@@ -8,12 +8,12 @@ use native.Mathlib.Omega.{arith}
 use lib.ListN.{length, drop, getD, set, length-append, drop-of-length-le}
 use lib.Seq.{set-getD}
 use borrow.Author.Tests.{le-leb, lt-leb}
-use Rattle.model.specs.Lists.{final}
+use Rattle.model.specs.Basics.{final}
 use Rattle.model.specs.Tree.{Node, Tree, noEntry, noNode, noTree, weave, entries, size, Shaped}
 use Rattle.model.specs.Gap.{slot, rest, slotAt, restAt, child, childAt}
 use Rattle.model.specs.Mend.{Plan, keep, move, join, mend}
 use Rattle.model.specs.Remove.{lost, planAt, step, removeAt}
-use Rattle.model.proofs.Lists.{final-append, final-other}
+use Rattle.model.proofs.Basics.{final-append, final-other}
 use Rattle.model.proofs.Weave.{weave-at}
 use Rattle.model.proofs.Gap.{shaped-forks, way-down, child-shaped, leaf-entries, size-some}
 

@@ -7,7 +7,7 @@ use mathlib.Core.List.{List, [], _∷_}
 use Prim.Native.Nat.{ℕ, zero, suc, pred, min, _+_, _≤_, _<_}
 use native.Mathlib.Omega.{arith}
 use lib.ListN.{length}
-use Rattle.model.specs.Lists.{tab, sum, same}
+use Rattle.model.specs.Basics.{tab, sum, same}
 use Rattle.model.specs.Layout.{mostEntries}
 use Rattle.model.specs.Head.{leastOf, countWord, rootWord, levelsWord}
 use Rattle.model.specs.PageMap.{mapOf, bitAt}
@@ -17,7 +17,7 @@ use Rattle.model.specs.Pool.{wholeOf}
 use Rattle.model.specs.Sound.{Sound}
 use Rattle.model.specs.Reached.{Leads, here, down, Reached}
 use Rattle.model.proofs.Cases.{either-lt, either-eq, same-self, same-other}
-use Rattle.model.proofs.Lists.{map-tab, all-at, length-tab, getD-tab}
+use Rattle.model.proofs.Basics.{map-tab, all-at, length-tab, getD-tab}
 use Rattle.model.proofs.Sums.{sum-at}
 use Rattle.model.proofs.PageMap.{bitAt-lt}
 use Rattle.model.proofs.Head.{head-facts}

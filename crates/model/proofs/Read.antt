@@ -5,7 +5,7 @@ use mathlib.Core.List.{List}
 use Prim.Native.Nat.{ℕ, suc}
 use lib.ListN.{length}
 use Rattle.model.specs.Page.{countOf, entryIn, childIn, entriesOf, childrenOf, readTree}
-use Rattle.model.proofs.Lists.{length-tab}
+use Rattle.model.proofs.Basics.{length-tab}
 
 pub length-own : (most : ℕ) (page : List ℕ) → length (entriesOf most page) ≡ countOf page
 unfolding entriesOf

@@ -1,23 +1,39 @@
--- Removal by position: what is left, the shape, and the pages met, which are those from before but for the freed ones. Over all levels, where the page at
--- the top may be left with one entry too few (its parent mends it, or it is the root); then of the whole tree, whose root may give way to its only child.
+-- Removal by position: what is left, the shape, and the pages met, which are those from before but for the freed ones.
+-- Over all levels, where the page at the top may be left with one entry too few (its parent mends it, or it is the
+-- root); then of the whole tree, whose root may give way to its only child.
 -- Assumes nothing.
 use mathlib.Core.Path.{_≡_, refl, sym, ap, _∙_}
+use mathlib.Core.Bool.{cond}
 use mathlib.Core.List.{List, [], _∷_, _++_}
 use Prim.Native.Nat.{ℕ, zero, suc, _+_, _-_, _≤_, _<_}
 use native.Mathlib.Omega.{arith}
+use lib.Dec.{leb}
 use lib.ListN.{length, drop, getD, length-drop, length-set}
 use lib.Seq.{take-set-le, drop-set-lt, getD-set-same}
 use borrow.Author.Tests.{le-leb, lt-leb}
-use Rattle.model.specs.Lists.{del, sum, same}
+use Rattle.model.specs.Basics.{del, sum, same}
 use Rattle.model.specs.Tree.{Entry, Tree, Whole, noTree, weave, entries, size, times, held, meets, Shaped, Formed}
 use Rattle.model.specs.Gap.{slotAt, restAt, child, childAt}
-use Rattle.model.specs.Remove.{gone, lost, planAt, step, stepFreed, removeAt, freedAt, collapse, collapseFreed, removeIn, freedIn, remove, freed}
+use Rattle.model.specs.Remove.{gone, lost, planAt, step, removeAt, collapse, removeIn, remove}
+use Rattle.model.specs.Freed.{stepFreed, freedAt}
 use Rattle.model.proofs.Cases.{either-le}
-use Rattle.model.proofs.Lists.{all-take, all-drop, all-at, all-map}
+use Rattle.model.proofs.Basics.{all-take, all-drop, all-at, all-map}
 use Rattle.model.proofs.Sums.{sum-single, sum-append, sum-set}
 use Rattle.model.proofs.Gap.{way-down, child-shaped, leaf-holds, size-some}
 use Rattle.model.proofs.Gone.{Some, gone-length, gone-at, weave-gone}
 use Rattle.model.proofs.Mend.{filled-loosen, Loose, Able, plan-able, mend-holds, mend-passes, mend-filled}
+
+-- ---- the pages that the whole tree is rid of: those on the way up, and a root left without entries
+
+unfoldable pub collapseFreed : (h : ℕ) → Tree (suc h) → List ℕ
+collapseFreed h t = cond (leb 1 (length (t .own))) [] (t .page ∷ [])
+
+unfoldable pub freedIn : (m h : ℕ) → Tree h → ℕ → List ℕ
+freedIn m zero t g = []
+freedIn m (suc h) t g = freedAt m (suc h) t g ++ collapseFreed h (removeAt m (suc h) t g)
+
+unfoldable pub freed : ℕ → Whole → ℕ → List ℕ
+freed m x g = freedIn m (x .levels) (x .tree) g
 
 -- ---- a page with no entry has one child, and holds what that holds
 

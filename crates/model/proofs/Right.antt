@@ -11,21 +11,22 @@ use lib.Dec.{leb}
 use lib.ListN.{length, set, take, drop, length-append, length-take, length-drop, length-set}
 use borrow.Author.Tests.{le-ltb, eq-eqb, ne-eqb, ltb-false}
 use Rattle.model.specs.declared.Geometry.{Geometry}
-use Rattle.model.specs.Lists.{All, del, ins}
+use Rattle.model.specs.Basics.{All, del, ins}
 use Rattle.model.specs.Layout.{mostPages, mostLevels, mostEntries}
 use Rattle.model.specs.Lawful.{Lawful}
 use Rattle.model.specs.Head.{openWord, afterWord, keyWord}
 use Rattle.model.specs.PageMap.{mapOf}
-use Rattle.model.specs.Tree.{meets, pagesOf, times, Formed, Rising, Shaped, held, entries, Entry, entry}
+use Rattle.model.specs.Tree.{meets, times, Formed, Rising, Shaped, held, entries, Entry, entry}
 use Rattle.model.specs.Entries.{shut, gap, keyFits}
 use Rattle.model.specs.Insert.{needed}
 use Rattle.model.specs.Remove.{remove}
 use Rattle.model.specs.Write.{write}
-use Rattle.model.specs.Pool.{Pool, poolOf, cursorOf, freeOf, withCursor, heldBy, room, gapBy, withWhole, made, freshOf, wholeOf, leastBy}
+use Rattle.model.specs.Pool.{Pool, poolOf, cursorOf, freeOf, withCursor, heldBy, room, gapBy, withWhole, freshOf, wholeOf, leastBy}
+use Rattle.model.specs.HeadCalls.{made}
 use Rattle.model.specs.Sound.{Sound}
 use Rattle.model.specs.MapCalls.{crowded, putAt}
 use Rattle.model.proofs.Cases.{either-eq}
-use Rattle.model.proofs.Lists.{all-append, all-take, all-drop, all-set, length-ins}
+use Rattle.model.proofs.Basics.{all-append, all-take, all-drop, all-set, length-ins}
 use Rattle.model.proofs.PageMap.{bitAt-lt, free-count, fresh-once, fresh-inside}
 use Rattle.model.proofs.Head.{head-facts}
 use Rattle.model.proofs.Lawful.{geometry-lawful}
@@ -33,7 +34,7 @@ use Rattle.model.proofs.Entries.{keyAt, rising-del, gap-le, rising-set,
 use Rattle.model.proofs.Insert.{insert-held, insert-meets, insert-formed}
 use Rattle.model.proofs.Remove.{remove-held, remove-meets, remove-formed}
 use Rattle.model.proofs.Write.{write-held, write-meets, write-formed}
-use Rattle.model.proofs.Numbers.{levels-most, pages-met, whole-bound, whole-most}
+use Rattle.model.proofs.Numbers.{pagesOf, levels-most, pages-met, whole-bound, whole-most}
 use Rattle.model.proofs.Room.{room-enough}
 
 pub record Right (p : Pool) : Type 0 where

@@ -1,5 +1,5 @@
--- While a pool of P pages holds at most m entries a page, m · P in all, an insert has room: the pages that it needs are at most those that are free.
--- The reason: each page of a run of full ones holds m + 1 entries more than it must.
+-- While a pool of P pages holds at most m entries a page, m · P in all, an insert has room: the pages that it needs are
+-- at most those that are free. The reason: each page of a run of full ones holds m + 1 entries more than it must.
 -- Assumes nothing.
 use mathlib.Core.Bool.{cond}
 use Prim.Native.Nat.{ℕ, zero, suc, _+_, _*_, _≤_, _<_}
@@ -8,13 +8,13 @@ use native.Mathlib.Omega.{arith}
 use lib.Dec.{eqb}
 use lib.ListN.{length}
 use borrow.Author.Tests.{eq-eqb, ne-eqb}
-use Rattle.model.specs.Tree.{Tree, Whole, noTree, size, Shaped, held, Formed, pagesBelow, pagesOf}
+use Rattle.model.specs.Tree.{Tree, Whole, noTree, size, Shaped, held, Formed}
 use Rattle.model.specs.Gap.{slotAt, restAt, childAt}
 use Rattle.model.specs.Insert.{run, needed}
 use Rattle.model.proofs.Sums.{sum-times, sum-le-at}
 use Rattle.model.proofs.Gap.{size-suc, way-down, child-shaped}
 use Rattle.model.proofs.Insert.{either-onward, run-le}
-use Rattle.model.proofs.Numbers.{entries-least}
+use Rattle.model.proofs.Numbers.{pagesBelow, pagesOf, entries-least}
 
 -- ---- the entries of a page above a run
 

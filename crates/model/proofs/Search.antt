@@ -1,23 +1,28 @@
--- The search by keys goes the way of the gap: code knows no sizes of subtrees, only keys. On rising entries the gap of a key or a bound among a page's own
--- entries is the slot of its gap in the whole tree, and its gap in that child is the rest. So a search reads the pages of the gap's path.
+-- The search by keys goes the way of the gap: code knows no sizes of subtrees, only keys. On rising entries the gap of
+-- a key or a bound among a page's own entries is the slot of its gap in the whole tree, and its gap in that child is
+-- the rest. So a search reads the pages of the gap's path; and the search path of a key is as document 01 says.
 -- Assumes nothing.
-use mathlib.Core.Path.{_≡_, refl, ap, subst, _∙_}
-use mathlib.Core.Bool.{Bool, true, cond}
+use mathlib.Core.Path.{_≡_, refl, sym, ap, subst, _∙_}
+use mathlib.Core.Bool.{Bool, true, false, cond}
 use mathlib.Core.Option.{some}
 use mathlib.Core.List.{List, [], _∷_, _++_}
 use Prim.Native.Nat.{ℕ, zero, suc, _+_, _-_, _≤_, _<_}
 use native.Mathlib.Omega.{arith}
 use lib.Dec.{ltb, leb·suc-suc}
-use lib.ListN.{length, take, drop, getD}
+use lib.ListN.{length, take, drop, getD, length-map}
 use lib.Seq.{drop-cons}
 use borrow.Author.Tests.{le-leb, lt-leb, lt-ltb, le-ltb, eq-eqb, ne-eqb}
-use Rattle.model.specs.Lists.{All}
+use Rattle.model.specs.Basics.{All, final}
+use Rattle.model.specs.Layout.{mostEntries}
 use Rattle.model.specs.Tree.{Entry, Tree, noEntry, noTree, weave, entries, size, Rising, Shaped}
 use Rattle.model.specs.Entries.{has, lookup, gapOf, gapBefore}
-use Rattle.model.specs.Gap.{slot, rest, slotAt, restAt, child, childAt, gapPages, gapSlots, depth, seekPages, seekSlots, at, find}
-use Rattle.model.proofs.Cases.{either, either-lt, either-eq}
-use Rattle.model.proofs.Lists.{all-at, all-map}
-use Rattle.model.proofs.Entries.{Falls, falls-below, rising-left, rising-right, rising-lo, all-under, all-above, gap-le, gap-unique, gap-past, gap-within, lookup-past, lookup-within, has-lookup, has-key, at-true}
+use Rattle.model.specs.Page.{entriesOf, childrenOf, readTree}
+use Rattle.model.specs.Gap.{slot, rest, slotAt, restAt, child, childAt}
+use Rattle.model.specs.Search.{at, searchPath}
+use Rattle.model.specs.Path.{gapPages, gapSlots, seekPages, seekSlots, find}
+use Rattle.model.proofs.Cases.{either, either-lt, either-eq, contrary}
+use Rattle.model.proofs.Basics.{all-at, all-map, getD-map}
+use Rattle.model.proofs.Entries.{Falls, falls-below, rising-left, rising-right, rising-lo, all-under, all-above, gap-le, gap-unique, gap-past, gap-within, lookup-past, lookup-within, has-lookup, has-slot, at-true}
 use Rattle.model.proofs.Weave.{left, right, weave-at}
 
 -- ---- one page, over a function `f` that says what a child holds
@@ -43,7 +48,8 @@ module _ {S : Type 0} (f : S → List Entry) where
       rising-lo (f (getD ss i d)) (getD es i noEntry) (weave f (drop (suc i) ss) (drop (suc i) es))
       (rw (drop-cons es i noEntry b) at (child-on ss es i d n (omega arith) r))
 
-  -- the gap of the test in all that the page holds lies in the child at the test's gap among the page's own entries, at the test's gap there
+  -- the gap of the test in all that the page holds lies in the child at the test's gap among the page's own entries, at
+  -- the test's gap there
   pub slot-seek : (before : ℕ → Bool) (ss : List S) (es : List Entry) (d : S) → length ss ≡ suc (length es) → Rising (weave f ss es) → Falls before
       → (slot long ss (gapOf before (weave f ss es)) ≡ gapOf before es)
       × (rest long ss (gapOf before (weave f ss es)) ≡ gapOf before (f (getD ss (gapOf before es) d)))
@@ -81,19 +87,6 @@ module _ {S : Type 0} (f : S → List Entry) where
       (either-eq (e .key) k
       (λ q. past (omega arith) ∙ rw (eq-eqb (e .key) k q))
       (λ o. rw (ne-eqb (e .key) k o) (lookup-within k (f s) (e ∷ w) (omega arith, all-above k (e .key) w l (t .0))))))
-
-  -- then all of the child is below it
-  pub full-seek : (k : ℕ) (ss : List S) (es : List Entry) (d : S) → length ss ≡ suc (length es) → Rising (weave f ss es) → at k es (gapBefore k es) ≡ true
-      → gapBefore k (f (getD ss (gapBefore k es) d)) ≡ length (f (getD ss (gapBefore k es) d))
-  full-seek k ss es d n r h =
-      let i = gapBefore k es in
-      let c = f (getD ss i d) in
-      let here = at-true k es i h in
-      let e = here .1 in
-      let lo = child-below ss es i d n (here .0) r in
-      gap-unique (λ x. ltb x k) c (length c) (omega arith)
-      (λ j l. lt-ltb (getD c j noEntry .key) k (omega (arith, all-at (λ x. x .key < getD es i noEntry .key) c j noEntry l lo)))
-      (λ l. absurd (omega arith))
 
 -- ---- of trees: the way down by keys
 
@@ -141,60 +134,92 @@ module _ (before : ℕ → Bool) where
 
 -- ---- the path of any gap
 
-pub depth-le : (h : ℕ) (t : Tree h) (g : ℕ) → depth h t g ≤ h
-unfolding depth
-depth-le zero t g = omega arith
-depth-le (suc h) t g =
-    either-lt (restAt h t g) (size h (childAt h t g))
-    (λ l. rw (lt-ltb (restAt h t g) (size h (childAt h t g)) l) (omega (arith, depth-le h (childAt h t g) (restAt h t g))))
-    (λ l. rw (le-ltb (restAt h t g) (size h (childAt h t g)) l) (omega arith))
-
 pub path-long : (h : ℕ) (t : Tree h) (g : ℕ) → (length (gapPages h t g) ≡ h) × (length (gapSlots h t g) ≡ h)
 unfolding gapPages gapSlots
 path-long zero t g = (refl, refl)
 path-long (suc h) t g = let p = path-long h (childAt h t g) (restAt h t g) in (ap suc (p .0), ap suc (p .1))
 
--- ---- what a search for a key answers, and the pages that it reads
+-- ---- the search path of a key: what the search answers, and the pages that it reads
 
+-- it is no longer than there are levels
+pub search-few : (k h : ℕ) (t : Tree h) → length (searchPath k h t) ≤ h
+unfolding searchPath
+search-few k zero t = omega arith
+search-few k (suc h) t =
+    either (at k (t .own) (gapBefore k (t .own)))
+    (λ y. rw y (omega arith))
+    (λ n. rw n (omega (arith, search-few k h (seekChild (λ x. ltb x k) h t))))
+
+module _ (k m low h : ℕ) (t : Tree (suc h)) (s : Shaped m low (suc h) t) (r : Rising (entries (suc h) t)) where
+  -- the key is the page's own entry, or it is the child's that the search goes on to
+  has-below : at k (t .own) (gapBefore k (t .own)) ≡ false → has k (entries (suc h) t) ≡ has k (entries h (seekChild (λ x. ltb x k) h t))
+  unfolding entries Shaped
+  has-below n =
+      let c = seekChild (λ x. ltb x k) h t in
+      has-lookup k (entries (suc h) t) ∙ rw (lookup-seek (entries h) k (t .children) (t .own) (noTree h) (s .forks) r, n) (sym (has-lookup k (entries h c)))
+
+  has-here : at k (t .own) (gapBefore k (t .own)) ≡ true → has k (entries (suc h) t) ≡ true
+  unfolding entries Shaped
+  has-here y = has-lookup k (entries (suc h) t) ∙ rw (lookup-seek (entries h) k (t .children) (t .own) (noTree h) (s .forks) r, y)
+
+-- of a key that is absent it is all levels
+pub search-absent : (k m low h : ℕ) (t : Tree h) → Shaped m low h t → Rising (entries h t) → has k (entries h t) ≡ false → length (searchPath k h t) ≡ h
+unfolding searchPath
+search-absent k m low zero t s r none = refl
+search-absent k m low (suc h) t s r none =
+    let before : ℕ → Bool = λ x. ltb x k in
+    either (at k (t .own) (gapBefore k (t .own)))
+    (λ y. contrary (has-here k m low h t s r y) none)
+    (λ n. rw n (ap suc (search-absent k m m h (seekChild before h t) (seek-shaped before m low h t s r) (seek-rising before m low h t s r)
+    (sym (has-below k m low h t s r n) ∙ none))))
+
+-- of a key that is there it ends at the page that holds it
+module _ (k m : ℕ) (pages : ℕ → List ℕ) where
+  abbrev found : (d h p : ℕ) → ℕ
+  found d h p = final d (searchPath k h (readTree m pages h p))
+
+  ends-there : (low d h p : ℕ) → Shaped m low h (readTree m pages h p) → Rising (entries h (readTree m pages h p))
+      → has k (entries h (readTree m pages h p)) ≡ true → has k (entriesOf (mostEntries m) (pages (found d h p))) ≡ true
+  unfolding searchPath readTree entries has
+  ends-there low d zero p s r there = contrary there refl
+  ends-there low d (suc h) p s r there =
+      let t = readTree m pages (suc h) p in
+      let before : ℕ → Bool = λ x. ltb x k in
+      let i = gapBefore k (t .own) in
+      either (at k (t .own) i)
+      (λ y. rw y (has-slot k (t .own) i y))
+      (λ n.
+      let c = childrenOf (mostEntries m) (pages p) in
+      let below : child h t i ≡ readTree m pages h (getD c i 0) =
+      getD-map (readTree m pages h) c i 0 (noTree h) (omega (arith, seek-inside before m low h t s r, length-map c (readTree m pages h))) in
+      rw (n, below)
+      (ends-there m p h (getD c i 0) (rw below at (seek-shaped before m low h t s r)) (rw below at (seek-rising before m low h t s r))
+      (rw below at (sym (has-below k m low h t s r n) ∙ there))))
+
+  pub search-present : (low h p : ℕ) → Shaped m low h (readTree m pages h p) → Rising (entries h (readTree m pages h p))
+      → has k (entries h (readTree m pages h p)) ≡ true → has k (entriesOf (mostEntries m) (pages (found 0 h p))) ≡ true
+  search-present low h p = ends-there low 0 h p
+
+-- what the search answers
 pub find-held : (k m low h : ℕ) (t : Tree h) → Shaped m low h t → Rising (entries h t)
-    → find k h t ≡ record { value = lookup k (entries h t); read = cond (has k (entries h t)) (depth h t (gapBefore k (entries h t))) h }
-unfolding find depth entries Shaped has lookup
+    → find k h t ≡ record { value = lookup k (entries h t); read = length (searchPath k h t) }
+unfolding find searchPath entries Shaped lookup
 find-held k m low zero t s r = refl
 find-held k m low (suc h) t s r =
     let before : ℕ → Bool = λ x. ltb x k in
-    let c = seekChild before h t in
-    let g = gapBefore k (entries h c) in
-    let ih = find-held k m m h c (seek-shaped before m low h t s r) (seek-rising before m low h t s r) in
-    let v = lookup-seek (entries h) k (t .children) (t .own) (noTree h) (s .forks) r in
-    rw (has-lookup k (entries (suc h) t), v, seek-slot before m low h t s r (falls-below k), seek-rest before m low h t s r (falls-below k))
-    (either (at k (t .own) (gapBefore k (t .own)))
-    (λ y. rw (y, le-ltb g (size h c) (omega (arith, full-seek (entries h) k (t .children) (t .own) (noTree h) (s .forks) r y))))
-    (λ n. rw (n, ih, ← (has-lookup k (entries h c))) (either (has k (entries h c))
-    (λ y. rw (y, lt-ltb g (size h c) (has-key k (entries h c) (seek-rising before m low h t s r) y .0)))
-    (λ o. rw o))))
+    let ih = find-held k m m h (seekChild before h t) (seek-shaped before m low h t s r) (seek-rising before m low h t s r) in
+    rw (lookup-seek (entries h) k (t .children) (t .own) (noTree h) (s .forks) r)
+    (either (at k (t .own) (gapBefore k (t .own))) (λ y. rw y) (λ n. rw (n, ih)))
 
--- the pages that `find` looks at
-unfoldable pub findPages : ℕ → (h : ℕ) → Tree h → List ℕ
-findPages k zero t = []
-findPages k (suc h) t =
-    let i = gapBefore k (t .own) in
-    t .page ∷ cond (at k (t .own) i) [] (findPages k h (child h t i))
-
--- they are as many as it says, and the first of the way to the key's gap
-pub find-read : (k h : ℕ) (t : Tree h) → length (findPages k h t) ≡ find k h t .read
-unfolding find findPages
-find-read k zero t = refl
-find-read k (suc h) t =
-    either (at k (t .own) (gapBefore k (t .own))) (λ y. rw y) (λ n. rw n (ap suc (find-read k h (seekChild (λ x. ltb x k) h t))))
-
-pub find-seek : (k h : ℕ) (t : Tree h) → findPages k h t ≡ take (find k h t .read) (seekPages (λ x. ltb x k) h t)
-unfolding find findPages seekPages
-find-seek k zero t = refl
-find-seek k (suc h) t =
-    either (at k (t .own) (gapBefore k (t .own)))
-    (λ y. rw y)
-    (λ n. rw n (ap (λ (l : List ℕ). t .page ∷ l) (find-seek k h (seekChild (λ x. ltb x k) h t))))
-
-pub find-pages : (k m low h : ℕ) (t : Tree h) → Shaped m low h t → Rising (entries h t)
-    → findPages k h t ≡ take (find k h t .read) (gapPages h t (gapBefore k (entries h t)))
-find-pages k m low h t s r = find-seek k h t ∙ ap (take (find k h t .read)) (seek-pages (λ x. ltb x k) m low h t s r (falls-below k))
+-- it reads the first pages of the way to the key's gap
+pub search-way : (k m low h : ℕ) (t : Tree h) → Shaped m low h t → Rising (entries h t)
+    → searchPath k h t ≡ take (length (searchPath k h t)) (gapPages h t (gapBefore k (entries h t)))
+unfolding searchPath seekPages
+search-way k m low h t s r = first h t ∙ ap (take (length (searchPath k h t))) (seek-pages (λ x. ltb x k) m low h t s r (falls-below k))
+  where
+    first : (h : ℕ) (t : Tree h) → searchPath k h t ≡ take (length (searchPath k h t)) (seekPages (λ x. ltb x k) h t)
+    first zero t = refl
+    first (suc h) t =
+        either (at k (t .own) (gapBefore k (t .own)))
+        (λ y. rw y)
+        (λ n. rw n (ap (λ (l : List ℕ). t .page ∷ l) (first h (seekChild (λ x. ltb x k) h t))))

@@ -14,30 +14,33 @@ use Rattle.model.specs.declared.Geometry.{Geometry}
 use Rattle.model.specs.Layout.{today, firstWord, allowed}
 use Rattle.model.specs.Head.{geometryOf, levelsWord, headed}
 use Rattle.model.specs.Tree.{Entry, entry, noEntry, Rising, held, entries}
-use Rattle.model.specs.Entries.{has, lookup, gapBefore, filed, removed, replaced}
+use Rattle.model.specs.Entries.{has, lookup, gapBefore}
 use Rattle.model.specs.Pool.{Pool, leastBy, heldBy, poolOf, wholeOf, gapBy, freshOf}
 use Rattle.model.specs.Sound.{Sound}
 use Rattle.model.specs.Refusal.{Test, applies, firstOf, order, refusal}
 use Rattle.model.specs.Call.{Call, Outcome, refused, answered, given, left, number, Meets}
-use Rattle.model.specs.PoolCalls.{copyTests, copied}
+use Rattle.model.specs.PoolCalls.{copyTests, cursorless}
 use Rattle.model.specs.MapCalls.{mapInsert, mapReplace, mapRemove, noRoom, crowded, putAt}
 use Rattle.model.specs.SetCalls.{setInsert, setRemove}
-use Rattle.model.specs.CursorCalls.{nextOf, prevOf, rewrite, strikeNext, cursorTests, cursorOpenLower, cursorOpenUpper, cursorNext, cursorPrev, cursorWriteNext, cursorWritePrev, cursorInsertAfter, cursorRemoveNext, cursorClose}
+use Rattle.model.specs.CursorCalls.{nextOf, prevOf, rewrite, strikeNext, cursorTests, cursorOpenLower, cursorOpenUpper, cursorNext, cursorPrev, cursorWriteNext, cursorWritePrev, cursorInsertAfter, cursorRemoveNext}
+use Rattle.model.specs.HeadCalls.{cursorClose}
 use Rattle.model.specs.Season.{isNew, isThere, isYes, isDone, numberIn, Use, byMake, byClear, byCopyIn, byCopyOut, byCheck, byCount, byIsEmpty, byInsert, byGet, byContains, byReplace, byRemove, bySetInsert, bySetGet, bySetContains, bySetRemove, byList, byOpenLower, byOpenUpper, byNext, byPrev, byPeekNext, byPeekPrev, byWriteNext, byWritePrev, byInsertAfter, byRemoveNext, byClose, byPlay, Season, afterMake, afterClear, afterCopy, afterUse, Demand}
 use Rattle.model.proofs.Cases.{either, either-lt, either-zero, contrary}
-use Rattle.model.proofs.Lists.{length-ins, length-del, next-some, next-none}
+use Rattle.model.proofs.Basics.{length-ins, length-del, next-some, next-none}
 use Rattle.model.proofs.Lawful.{pages-of, geometry-lawful}
 use Rattle.model.proofs.Head.{head-facts}
-use Rattle.model.proofs.Entries.{gap-le, has-key, lookup-at}
+use Rattle.model.proofs.Entries.{filed, removed, replaced, gap-le, has-key, lookup-at}
 use Rattle.model.proofs.Insert.{insert-held}
 use Rattle.model.proofs.Remove.{remove-held}
 use Rattle.model.proofs.Write.{write-held}
 use Rattle.model.proofs.Right.{Right, sound-right, right-deep, right-room}
 use Rattle.model.proofs.Calls.{file-geometry, strike-geometry, replace-geometry, rewrite-geometry, strike-next-geometry, file-held, replace-held, strike-held}
 use Rattle.model.proofs.Keeps.{passed}
-use Rattle.model.proofs.Meets.{given-answered, given-refused}
+use Rattle.model.proofs.Meets.{given-refused}
+use Rattle.model.proofs.Making.{exact-answered, exact-refused, makes-new, makes-long, clears-new, clears-long}
+use Rattle.model.proofs.HeadCalls.{counts-meets, empty-meets, closes-meets}
 use Rattle.model.proofs.Reached.{reached-once, reached-marked, marked-reached, reached-level}
-use Rattle.model.proofs.Copy.{copied-length, copied-geometry, copy-sound, copy-pool}
+use Rattle.model.proofs.Cursorless.{cursorless-length, cursorless-geometry, cursorless-sound, cursorless-pool}
 
 -- ---- the number of entries, by the answer
 
@@ -145,13 +148,13 @@ quiet : {A : Type 0} (c : Call A) {w v : List ℕ} {o : Outcome A} → Sound w �
 quiet c s m same fact = counted c (λ o. 0) (λ o. 0) s m same (λ n. (refl, refl)) (rw fact)
 
 use-counted : {w v : List ℕ} {a r : ℕ} → Sound w → Use w v a r → Counted w v a r
-use-counted s (byMake kind n m) = unchanged s (m .kept n refl)
-use-counted s (byClear n m) = unchanged s (m .kept n refl)
-use-counted s (byCopyIn source n m) = unchanged s (m .kept n refl)
+use-counted s (byMake kind n m) = unchanged s (exact-refused m .2)
+use-counted s (byClear n m) = unchanged s (exact-refused m .2)
+use-counted s (byCopyIn source n m) = unchanged s (exact-refused m .2)
 use-counted s (byCopyOut destination after o m) = unchanged s refl
 use-counted s (byCheck o m) = unchanged s refl
-use-counted s (byCount o m) = unchanged s (m .still s refl)
-use-counted s (byIsEmpty o m) = unchanged s (m .still s refl)
+use-counted s (byCount o m) = unchanged s (counts-meets m .still s refl)
+use-counted s (byIsEmpty o m) = unchanged s (empty-meets m .still s refl)
 use-counted {w} s (byInsert k x o m) =
     let r = sound-right w s in
     counted (mapInsert k x) isNew (λ o. 0) s m (file-geometry (entry k x) (poolOf w)) (λ n. (refl, refl))
@@ -195,7 +198,7 @@ use-counted {w} s (byInsertAfter k x o m) =
 use-counted {w} s (byRemoveNext o m) =
     let p = poolOf w in
     counted cursorRemoveNext (λ o. 0) isThere s m (strike-next-geometry (nextOf p) p) (λ n. (refl, refl)) (omega (arith, strike-next-number p (sound-right w s)))
-use-counted s (byClose o m) = quiet cursorClose s m refl refl
+use-counted s (byClose o m) = quiet cursorClose s (closes-meets m) refl refl
 use-counted {w} {v} s (byPlay cs o m) =
     either-zero (refusal (cursorTests w))
     (λ z. record { geometry = held-geometry v (m .holds s z) ∙ sym (pool-geometry w); long = m .long .0; sound = m .sound s; entries = rw (m .holds s z) })
@@ -266,25 +269,26 @@ module _ (source w : List ℕ) (s : Sound source) where
   source-long = omega (arith, head-facts source (s .head) .long)
 
   -- a copy that is accepted is as long as what it was copied over
-  copy-long : refusal (copyTests source w) ≡ 0 → length (copied source) ≡ length w
+  copy-long : refusal (copyTests source w) ≡ 0 → length (cursorless source) ≡ length w
   copy-long e =
       let a = passed (not (headed source && allowed (geometryOf source) (length w))) 1 _ (omega arith) e in
       let b = passed (not (eqb (length source) (length w))) 8 _ (omega arith) (a .1) in
-      copied-length source source-long ∙ eqb-true (length source) (length w) (not-false _ (b .0))
+      cursorless-length source source-long ∙ eqb-true (length source) (length w) (not-false _ (b .0))
 
 pub season-demand : {γ : Geometry} {P accepted gone : ℕ} {w : List ℕ} → Season γ P accepted gone w → Demand γ P accepted gone w
 unfolding held entries
 season-demand {γ} {P} (afterMake {w} {v} kind same long m) =
-    let a = m .makes refl in
-    sound-demand γ P v (a .0) (held-geometry v (a .1)) (m .long ∙ long) 0 0 (rw (a .1))
+    let a = makes-new kind m in
+    sound-demand γ P v (a .0) (held-geometry v (a .1) ∙ sym same) (makes-long kind m ∙ long) 0 0 (rw (a .1))
 season-demand {γ} {P} (afterClear {w} {v} same long m) =
-    let a = m .makes refl in
-    sound-demand γ P v (a .0) (held-geometry v (a .1)) (m .long ∙ long) 0 0 (rw (a .1))
+    let a = clears-new m in
+    sound-demand γ P v (a .0) (held-geometry v (a .1) ∙ same) (clears-long m ∙ long) 0 0 (rw (a .1))
 season-demand {γ} {P} (afterCopy {w} {v} source same long s m) =
-    let a = m .copies refl in
-    let like : geometryOf v ≡ γ = rw a (copied-geometry source (source-long source w s)) ∙ same in
-    sound-demand γ P v (rw a (copy-sound source s)) like (ap length a ∙ copy-long source w s (given-answered _ tt tt (m .exact) .0) ∙ long) (numberIn source) 0
-    (rw (a, copy-pool source s) (omega arith))
+    let e = exact-answered m in
+    let a = e .2 in
+    let like : geometryOf v ≡ γ = rw a (cursorless-geometry source (source-long source w s)) ∙ same in
+    sound-demand γ P v (rw a (cursorless-sound source s)) like (ap length a ∙ copy-long source w s (e .0) ∙ long) (numberIn source) 0
+    (rw (a, cursorless-pool source s) (omega arith))
 season-demand {γ} {P} (afterUse {v = v} {accepted = accepted} {removed = gone} {a = a} {r = r} before used) =
     let d = season-demand before in
     let c = use-counted (d .sound) used in

@@ -14,27 +14,28 @@ use lib.ListN.{length, getD, set, length-map}
 use lib.Seq.{map-set-same}
 use borrow.Author.Tests.{lt-ltb, eq-eqb, ne-eqb}
 use Rattle.model.specs.declared.Geometry.{Geometry}
-use Rattle.model.specs.Lists.{ins, del}
+use Rattle.model.specs.Basics.{ins, del}
 use Rattle.model.specs.Head.{headed, kindWord, openWord}
 use Rattle.model.specs.Tree.{Entry, entry, noEntry, Rising}
 use Rattle.model.specs.Bound.{boundOf, beforeLower, beforeUpper}
-use Rattle.model.specs.Entries.{has, lookup, filed, removed, gapOf, gapBefore, gap, next, prev, above, under, keyFits, back, valueOf}
+use Rattle.model.specs.Entries.{has, lookup, gapOf, gapBefore, gap, next, prev, above, under, keyFits, back, valueOf}
 use Rattle.model.specs.Pool.{Pool, heldBy, freshOf, poolOf, withCursor, leastBy}
 use Rattle.model.specs.Sound.{Sound}
 use Rattle.model.specs.Refusal.{refusal, mapKind}
 use Rattle.model.specs.Call.{Call, Outcome, Meets, refused, answered, given, number}
-use Rattle.model.specs.PoolCalls.{Makes, clearTests}
+use Rattle.model.specs.PoolCalls.{clearTests, Clears}
 use Rattle.model.specs.MapCalls.{crowded, changeTests}
-use Rattle.model.specs.CursorCalls.{cursorTests, cursorOpenLower, cursorOpenUpper, cursorNext, cursorPrev, cursorPeekNext, cursorPeekPrev, cursorWriteNext, cursorWritePrev, cursorInsertAfter, cursorRemoveNext, cursorClose, nextOf, prevOf, rewrite, strikeNext}
+use Rattle.model.specs.CursorCalls.{cursorTests, cursorOpenLower, cursorOpenUpper, cursorNext, cursorPrev, cursorPeekNext, cursorPeekPrev, cursorWriteNext, cursorWritePrev, cursorInsertAfter, cursorRemoveNext, nextOf, prevOf, rewrite, strikeNext, Closes}
 use Rattle.model.specs.Source.{view, altered, Mutated, keysIn, position, WellFormed, Positioned, FitsThere, Shown, Moved}
 use Rattle.model.proofs.Cases.{either-lt, either-eq, never, contrary}
-use Rattle.model.proofs.Lists.{map-ins, map-del, next-some, next-none, found-some, found-none}
-use Rattle.model.proofs.Entries.{Falls, falls-lower, falls-upper, keyAt, gap-le, gap-front, gap-back, gap-of-entry, has-entry, lookup-at, true-fits, fits-gap, fits-absent}
+use Rattle.model.proofs.Basics.{map-ins, map-del, next-some, next-none, found-some, found-none}
+use Rattle.model.proofs.Entries.{filed, removed, Falls, falls-lower, falls-upper, keyAt, gap-le, gap-front, gap-back, gap-of-entry, has-entry, lookup-at, true-fits, fits-gap, fits-absent}
 use Rattle.model.proofs.Insert.{insert-held}
 use Rattle.model.proofs.Remove.{remove-held}
 use Rattle.model.proofs.Write.{write-held}
 use Rattle.model.proofs.Right.{Right, sound-right}
 use Rattle.model.proofs.Meets.{gap-opened, gap-map, gap-passes}
+use Rattle.model.proofs.HeadCalls.{closes-meets}
 use Rattle.model.proofs.SourceMap.{answered-number, answered-answer, answered-after, must-answer, keys, key-there, keys-enumerate, lookup-filed, lookup-removed, mutated-altered}
 
 -- ---- lists of entries: an entry at its place
@@ -297,8 +298,8 @@ module _ {w v : List ℕ} (s : Sound w) where
 
   -- ---- close: the borrow ends, and what the cursor held is what the map holds
 
-  pub close-view : Meets cursorClose w v (answered tt) → (keysIn v ≡ keysIn w) × ((k : ℕ) → view v k ≡ view w k)
-  close-view meets = let h = after s meets in (rw h, λ k. rw h)
+  pub close-view : Closes w v (answered tt) → (keysIn v ≡ keysIn w) × ((k : ℕ) → view v k ≡ view w k)
+  close-view closes = let h = after s (closes-meets closes) in (rw h, λ k. rw h)
 
 -- till then a call that changes the map is refused with 4: insert, replace and remove have these tests, and clear
 module _ {w v : List ℕ} {g : ℕ} (s : Sound w) (open-there : poolOf w .cursor ≡ gap g) where
@@ -307,10 +308,10 @@ module _ {w v : List ℕ} {g : ℕ} (s : Sound w) (open-there : poolOf w .cursor
       let q = meets .early 3 (rw (tests, s .head, gap-map w s open-there, gap-opened w s open-there)) in
       (q, meets .kept 4 q)
 
-  pub open-shuts-clear : {γ : Geometry} {kind : ℕ} {r : Outcome (Unit {0})} → Makes (clearTests w) γ kind w v r → (r ≡ refused 4) × (v ≡ w)
-  open-shuts-clear {r = r} makes =
-      let q : r ≡ refused 4 = makes .exact ∙ rw (s .head, gap-opened w s open-there) in
-      (q, makes .kept 4 q)
+  pub open-shuts-clear : {r : Outcome (Unit {0})} → Clears w v r → (r ≡ refused 4) × (v ≡ w)
+  open-shuts-clear {r} clears =
+      let q : refusal (clearTests w) ≡ 4 = rw (s .head, gap-opened w s open-there) in
+      (clears .exact ∙ rw q, clears .words ∙ rw q)
 
 -- ---- a changed value: the source's write through the reference that a step or a peek answers
 

@@ -1,5 +1,6 @@
--- The source's clauses on `keys`, `values` and `iter`, which here are lists with both bounds unbounded into slices that are long enough: the words written, in key order.
--- Of a map or a set, for every answer that the contract allows on a sound pool, with no premise on the order of keys.
+-- The source's clauses on `keys`, `values` and `iter`, which here are lists with both bounds unbounded into slices that
+-- are long enough: the words written, in key order. Of a map or a set, for every answer that the contract allows on a
+-- sound pool, with no premise on the order of keys.
 -- Assumes nothing.
 use mathlib.Core.Path.{_≡_, refl, sym, ap, _∙_}
 use mathlib.Core.Bool.{true}
@@ -9,7 +10,7 @@ use Prim.Native.Nat.{ℕ, zero, suc, min, _≤_, _<_}
 use native.Mathlib.Omega.{arith}
 use lib.ListN.{length, getD, take, drop, length-map}
 use lib.Seq.{take-all, take-at, getD-take}
-use Rattle.model.specs.Lists.{All, those}
+use Rattle.model.specs.Basics.{All, those}
 use Rattle.model.specs.Tree.{Entry, noEntry, Rising}
 use Rattle.model.specs.Bound.{unbounded}
 use Rattle.model.specs.Entries.{has, lookup, gapBefore}
@@ -17,16 +18,16 @@ use Rattle.model.specs.Pool.{heldBy, poolOf}
 use Rattle.model.specs.Sound.{Sound}
 use Rattle.model.specs.Refusal.{Test, refusal}
 use Rattle.model.specs.Call.{Outcome, refused, answered}
-use Rattle.model.specs.ListCalls.{Column, keyColumn, valueColumn, shortest, listed, written, Lists}
+use Rattle.model.specs.ListCalls.{Column, keyColumn, valueColumn, shortest, listed, fronted, Lists}
 use Rattle.model.specs.Source.{view, member, Enumerates, Pairing}
-use Rattle.model.proofs.Lists.{getD-map, all-map}
+use Rattle.model.proofs.Basics.{getD-map, all-map}
 use Rattle.model.proofs.Entries.{keyAt, has-lookup, has-key, has-entry, lookup-at, gap-of-entry}
 use Rattle.model.proofs.Right.{sound-right}
 use Rattle.model.proofs.SourceMap.{keys, key-there, keys-enumerate}
 
 -- ---- lists of entries
 
-those-all : (es : List Entry) → those (λ e. true) es ≡ es
+pub those-all : (es : List Entry) → those (λ e. true) es ≡ es
 those-all [] = refl
 those-all (e ∷ es) = ap (λ (l : List Entry). e ∷ l) (those-all es)
 
@@ -47,7 +48,7 @@ entries-pairing es r = record {
 
 -- ---- a list that answered
 
-not-refused : (t n : ℕ) → ((k : ℕ) → t ≡ suc k → _≡_ {A = Outcome ℕ} (answered n) (refused (suc k))) → t ≡ 0
+pub not-refused : (t n : ℕ) → ((k : ℕ) → t ≡ suc k → _≡_ {A = Outcome ℕ} (answered n) (refused (suc k))) → t ≡ 0
 not-refused zero n f = refl
 not-refused (suc k) n f = let e = f k refl in cc
 
@@ -68,10 +69,10 @@ module _ (tests : List Test) (w : List ℕ) (cs : List Column) (n : ℕ) (s : So
   -- what stands at the front of each slice
   pub list-front : All (λ c. take n (c .after) ≡ map (c .part) (heldBy (poolOf w))) cs
   list-front =
-      all-map (λ c. c .after ≡ written (map (c .part) (listed unbounded unbounded cs (poolOf w))) (c .before)) (λ c. take n (c .after) ≡ map (c .part) (heldBy (poolOf w))) cs
+      all-map (λ c. c .after ≡ fronted (map (c .part) (listed unbounded unbounded cs (poolOf w))) (c .before)) (λ c. take n (c .after) ≡ map (c .part) (heldBy (poolOf w))) cs
       (λ c e.
       let es = heldBy (poolOf w) in
-      let whole : c .after ≡ written (map (c .part) es) (c .before) = rw all-listed at e in
+      let whole : c .after ≡ fronted (map (c .part) es) (c .before) = rw all-listed at e in
       rw whole (take-at (map (c .part) es) (drop (length (map (c .part) es)) (c .before)) n (length-map es (c .part) ∙ sym list-count)))
       (m .writes s passed)
 

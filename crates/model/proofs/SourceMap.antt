@@ -14,24 +14,27 @@ use lib.ListN.{length, getD, set, take, drop, take-append-drop, length-map}
 use lib.Seq.{split-at, set-split}
 use borrow.Author.Tests.{eq-eqb, ne-eqb}
 use Rattle.model.specs.declared.Geometry.{Geometry}
-use Rattle.model.specs.Lists.{All, del}
+use Rattle.model.specs.Basics.{All, del}
 use Rattle.model.specs.Head.{openWord}
 use Rattle.model.specs.Tree.{Entry, entry, noEntry, Rising, held, entries}
-use Rattle.model.specs.Entries.{has, lookup, gapBefore, filed, removed}
-use Rattle.model.specs.Gap.{Found}
+use Rattle.model.specs.Entries.{has, lookup, gapBefore}
+use Rattle.model.specs.Search.{Found, Seen}
 use Rattle.model.specs.Pool.{Pool, heldBy, poolOf}
 use Rattle.model.specs.Sound.{Sound}
 use Rattle.model.specs.Refusal.{Test, mapKind}
 use Rattle.model.specs.Call.{Call, Outcome, answered, left, number, Meets}
-use Rattle.model.specs.PoolCalls.{Makes, Copies, poolCount, poolIsEmpty}
-use Rattle.model.specs.MapCalls.{file, strike, pagesRead, Seen, mapInsert, mapGet, mapContains, mapReplace, mapRemove}
+use Rattle.model.specs.PoolCalls.{Makes, Clears, Copies, Counts, TellsEmpty}
+use Rattle.model.specs.HeadCalls.{poolCount, poolIsEmpty}
+use Rattle.model.specs.MapCalls.{file, strike, pagesRead, mapInsert, mapGet, mapContains, mapReplace, mapRemove}
 use Rattle.model.specs.Source.{view, member, altered, Mutated, Increasing, Enumerates}
 use Rattle.model.proofs.Cases.{either, either-eq, contrary, either-lt}
-use Rattle.model.proofs.Lists.{getD-map}
-use Rattle.model.proofs.Entries.{keyAt, rising-at, rising-lo, rising-right, lookup-none, lookup-past, there, has-lookup, has-key, has-entry, gap-le, absent-fits, rising-ins, lookup-at}
+use Rattle.model.proofs.Basics.{getD-map}
+use Rattle.model.proofs.Entries.{filed, removed, keyAt, rising-at, rising-lo, rising-right, lookup-none, lookup-past, there, has-lookup, has-key, has-entry, gap-le, absent-fits, rising-ins, lookup-at}
 use Rattle.model.proofs.Right.{Right, sound-right}
 use Rattle.model.proofs.Calls.{file-held, strike-held}
-use Rattle.model.proofs.Copy.{copy-sound, copy-pool}
+use Rattle.model.proofs.Making.{exact-answered, makes-new, clears-new}
+use Rattle.model.proofs.HeadCalls.{counts-meets, empty-meets}
+use Rattle.model.proofs.Cursorless.{cursorless-sound, cursorless-pool}
 use Rattle.model.proofs.Meets.{given-answered, passes-reading}
 
 -- ---- a call that answered
@@ -274,23 +277,26 @@ module _ (k : ℕ) (w : List ℕ) (a : Found) (s : Sound w) (seen : Meets (mapGe
 
 -- ---- make (the source's `new` and `default`) and clear, copy, count, is-empty: of a map or a set
 
-module _ (tests : List Test) (γ : Geometry) (kind : ℕ) (w v : List ℕ) (m : Makes tests γ kind w v (answered tt)) where
-  pub make-view : (k : ℕ) → view v k ≡ none
-  unfolding held entries lookup
-  make-view k = rw (m .makes refl .1)
+pub make-view : (kind : ℕ) (w v : List ℕ) → Makes kind w v (answered tt) → (k : ℕ) → view v k ≡ none
+unfolding held entries lookup
+make-view kind w v m k = rw (makes-new kind m .1)
+
+pub clear-view : (w v : List ℕ) → Clears w v (answered tt) → (k : ℕ) → view v k ≡ none
+unfolding held entries lookup
+clear-view w v m k = rw (clears-new m .1)
 
 module _ (w old v : List ℕ) (s : Sound w) (m : Copies w old v (answered tt)) where
   pub copy-view : Sound v × ((k : ℕ) → view v k ≡ view w k)
-  copy-view = (rw (m .copies refl) (copy-sound w s), λ k. rw (m .copies refl, copy-pool w s))
+  copy-view = let e = exact-answered m .2 in (rw e (cursorless-sound w s), λ k. rw (e, cursorless-pool w s))
 
-module _ (w v : List ℕ) (n : ℕ) (s : Sound w) (m : Meets poolCount w v (answered n)) where
+module _ (w v : List ℕ) (n : ℕ) (s : Sound w) (m : Counts w v (answered n)) where
   pub count-answer : n ≡ length (heldBy (poolOf w))
-  count-answer = answered-answer poolCount w v n s m
+  count-answer = answered-answer poolCount w v n s (counts-meets m)
 
   -- the number of keys
   pub count-keys : (ks : List ℕ) × Enumerates (member w) ks × (length ks ≡ n)
   count-keys = let es = heldBy (poolOf w) in (keys es, keys-enumerate es (sound-right w s .rising), length-map es (λ e. e .key) ∙ sym count-answer)
 
-module _ (w v : List ℕ) (b : Bool) (s : Sound w) (m : Meets poolIsEmpty w v (answered b)) where
+module _ (w v : List ℕ) (b : Bool) (s : Sound w) (m : TellsEmpty w v (answered b)) where
   pub is-empty-view : b ≡ true ↔ ((k : ℕ) → view w k ≡ none)
-  is-empty-view = rw (answered-answer poolIsEmpty w v b s m) (none-empty (heldBy (poolOf w)))
+  is-empty-view = rw (answered-answer poolIsEmpty w v b s (empty-meets m)) (none-empty (heldBy (poolOf w)))

@@ -10,19 +10,19 @@ use mathlib.Core.List.{List}
 use Prim.Native.Nat.{ℕ}
 use lib.Dec.{eqb}
 use Rattle.model.specs.declared.Geometry.{Geometry}
-use Rattle.model.specs.Gap.{Found}
+use Rattle.model.specs.Search.{Found, Seen}
 use Rattle.model.specs.Pool.{poolOf}
 use Rattle.model.specs.Sound.{Sound}
 use Rattle.model.specs.Refusal.{Test}
 use Rattle.model.specs.Call.{answered, Meets}
-use Rattle.model.specs.PoolCalls.{Makes, Copies, poolIsEmpty}
-use Rattle.model.specs.MapCalls.{pagesRead, Seen}
+use Rattle.model.specs.PoolCalls.{Makes, Clears, Copies, TellsEmpty}
+use Rattle.model.specs.MapCalls.{pagesRead}
 use Rattle.model.specs.SetCalls.{setInsert, setGet, setContains, setRemove}
 use Rattle.model.specs.Source.{view, member, altered}
 use Rattle.model.proofs.Cases.{either}
 use Rattle.model.proofs.Entries.{there}
 use Rattle.model.proofs.Right.{sound-right}
-use Rattle.model.proofs.SourceMap.{answered-answer, answered-after, file-lookup, strike-lookup, member-view, make-view, copy-view, is-empty-view}
+use Rattle.model.proofs.SourceMap.{answered-answer, answered-after, file-lookup, strike-lookup, member-view, make-view, clear-view, copy-view, is-empty-view}
 
 -- ---- a set is the keys of a map
 
@@ -68,13 +68,16 @@ module _ (k : ℕ) (w v : List ℕ) (b : Bool) (s : Sound w) (m : Meets (setRemo
 
 -- ---- make (the source's `new` and `default`) and clear, copy, is-empty
 
-pub make-member : (tests : List Test) (γ : Geometry) (kind : ℕ) (w v : List ℕ) → Makes tests γ kind w v (answered tt) → (k : ℕ) → member v k ≡ false
-make-member tests γ kind w v m k = rw (member-view v k, make-view tests γ kind w v m k)
+pub make-member : (kind : ℕ) (w v : List ℕ) → Makes kind w v (answered tt) → (k : ℕ) → member v k ≡ false
+make-member kind w v m k = rw (member-view v k, make-view kind w v m k)
+
+pub clear-member : (w v : List ℕ) → Clears w v (answered tt) → (k : ℕ) → member v k ≡ false
+clear-member w v m k = rw (member-view v k, clear-view w v m k)
 
 pub copy-member : (w old v : List ℕ) → Sound w → Copies w old v (answered tt) → (k : ℕ) → member v k ≡ member w k
 copy-member w old v s m k = rw (member-view v k, copy-view w old v s m .1 k, member-view w k)
 
-pub is-empty-member : (w v : List ℕ) (b : Bool) → Sound w → Meets poolIsEmpty w v (answered b) → b ≡ true ↔ ((k : ℕ) → member w k ≡ false)
+pub is-empty-member : (w v : List ℕ) (b : Bool) → Sound w → TellsEmpty w v (answered b) → b ≡ true ↔ ((k : ℕ) → member w k ≡ false)
 is-empty-member w v b s m =
     let e = is-empty-view w v b s m in
     (λ y k. rw (member-view w k, e .0 y k), λ f. e .1 (λ k. there-none (view w k) (sym (member-view w k) ∙ f k)))

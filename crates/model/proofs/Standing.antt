@@ -1,19 +1,20 @@
--- What reading finds, and what writing has to show: the tree that is read stands in the pages; a tree that stands in pages is read from them, its heights
--- are right, and pages that say the same hold it too: whoever changes none of its pages changes nothing of it.
+-- What reading finds, and what writing has to show: the tree that is read stands in the pages; a tree that stands in
+-- pages is read from them, its heights are right, and pages that say the same hold it too: whoever changes none of its
+-- pages changes nothing of it.
 -- Assumes nothing.
 use mathlib.Core.Path.{_≡_, refl, sym, ap, ap₂, subst, _∙_}
 use mathlib.Core.List.{List, [], _∷_, _++_, map}
 use Prim.Native.Nat.{ℕ, zero, suc, pred, _+_, _<_}
 use native.Mathlib.Omega.{arith}
 use lib.ListN.{length, take, drop, set, length-map}
-use Rattle.model.specs.Lists.{splice, All, sum}
+use Rattle.model.specs.Basics.{splice, All, sum}
 use Rattle.model.specs.Layout.{mostEntries}
 use Rattle.model.specs.Tree.{Tree, Shaped, Entry, times}
 use Rattle.model.specs.Page.{childrenOf, readTree, Heights}
 use Rattle.model.specs.Alike.{AlikePage}
 use Rattle.model.specs.Standing.{Stands, rootOf, Standing}
 use Rattle.model.proofs.Cases.{same-self}
-use Rattle.model.proofs.Lists.{splice-one, all-append, all-take, all-drop, all-map, all-image, all-any, all-both}
+use Rattle.model.proofs.Basics.{splice-one, all-append, all-take, all-drop, all-map, all-image, all-any, all-both}
 use Rattle.model.proofs.Read.{length-children, length-own}
 
 module _ (m : ℕ) (pages : ℕ → List ℕ) where

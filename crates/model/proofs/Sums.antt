@@ -8,7 +8,8 @@ use native.Mathlib.Nat.{zero-add, add-zero, add-suc, zero-mul, mul-zero}
 use native.Mathlib.Omega.{arith}
 use lib.ListN.{length, take, drop, getD, set, take-append-drop, drop-of-length-le}
 use lib.Seq.{split-at, set-split}
-use Rattle.model.specs.Lists.{splice, tab, sum, sumTo, same, All}
+use Rattle.model.specs.Basics.{splice, tab, sum, same, All}
+use Rattle.model.specs.Sums.{sumTo}
 use Rattle.model.proofs.Cases.{either-eq, same-eq, same-other, same-le, same-zero, either-lt}
 
 -- ---- over a list

@@ -7,7 +7,7 @@ use Prim.Native.Nat.{ℕ, suc, _+_, _<_}
 use native.Mathlib.Omega.{arith}
 use lib.ListN.{length, take, drop, length-take, length-drop}
 use lib.Seq.{getD-take, getD-drop, ext-getD}
-use Rattle.model.specs.Layout.{headWords, mapWords, today, firstWord, word}
+use Rattle.model.specs.Layout.{headWords, mapWords, firstWord, word}
 use Rattle.model.specs.declared.Geometry.{Geometry}
 use Rattle.model.specs.Head.{geometryOf, leastOf, headed, kindWord, openWord}
 use Rattle.model.proofs.Lawful.{geometry-same}
@@ -19,21 +19,22 @@ use Rattle.model.specs.Entries.{gap, shut}
 use Rattle.model.specs.Pool.{Pool, poolOf, heldBy, gapBy, withCursor}
 use Rattle.model.specs.Sound.{Sound}
 use Rattle.model.specs.Written.{Written}
-use Rattle.model.specs.Alike.{Alike}
+use Rattle.model.specs.Alike.{Words, Alike}
 use Rattle.model.specs.Refusal.{Test, unfit, refusal}
-use Rattle.model.specs.Call.{Call, Outcome, given, number}
-use Rattle.model.specs.PoolCalls.{makeTests, clearTests, copyTests, copied}
+use Rattle.model.specs.Call.{Call, Outcome, given, left, number, Exact}
+use Rattle.model.specs.PoolCalls.{makeTests, clearTests, Makes, Clears, copyTests}
 use Rattle.model.specs.MapCalls.{readTests, changeTests}
 use Rattle.model.specs.ListCalls.{Column, listTests, Lists}
 use Rattle.model.specs.CursorCalls.{openTests, cursorTests}
 use Rattle.model.specs.Unread.{Unread, ListsUnread, PlaysUnread, MakesUnread, CopiesUnread}
 use Rattle.model.proofs.Cases.{either-zero}
-use Rattle.model.proofs.Lists.{front-word}
+use Rattle.model.proofs.Basics.{front-word}
 use Rattle.model.proofs.Standing.{standing-alike}
 use Rattle.model.proofs.Right.{sound-right}
 use Rattle.model.proofs.Alike.{alike}
-use Rattle.model.proofs.Copy.{copy-sound, copy-pool}
-use Rattle.model.proofs.Agree.{alike-self, by-given, shortest-same, kept-same, written-same, same-count, lists-determined}
+use Rattle.model.proofs.Making.{fresh-made, fresh-cleared}
+use Rattle.model.proofs.Cursorless.{cursorless-sound, cursorless-pool}
+use Rattle.model.proofs.Agree.{alike-self, shortest-same, kept-same, fronted-same, same-count, lists-determined}
 use Rattle.model.proofs.Written.{sound-written, written-sound, written-pool}
 
 module _ (w x : List ℕ) (s : Sound w) (k : Alike w x) where
@@ -160,7 +161,7 @@ plays-unread w x v u cs ds r s sw k l vs us a b =
     let left = ap (λ (n : ℕ). withCursor p (gap (gapBy p + length (es n)))) (shortest-same cs ds l) in (
       same-count (λ o. o) (λ r s e. e) es cs ds l (a .exact sw z) (rw pool at (b .exact sx y)),
       alike v u vs us (a .sound sw) (b .sound sx) (a .holds sw z ∙ left ∙ sym (rw pool at (b .holds sx y))),
-      written-same es cs ds l (a .writes sw z) (rw pool at (b .writes sx y)),
+      fronted-same es cs ds l (a .writes sw z) (rw pool at (b .writes sx y)),
     ))
     (λ n e.
     let f : refusal (cursorTests x) ≡ suc n = ap refusal tests ∙ e in
@@ -168,35 +169,38 @@ plays-unread w x v u cs ds r s sw k l vs us a b =
     let d = b .kept (suc n) (b .early n f) in
     (a .early n e ∙ sym (b .early n f), rw (c .0, d .0) k, kept-same cs ds l (c .1) (d .1)))
 
--- make and clear
-makes-unread : (tests : List ℕ → List Test) (geometry : List ℕ → Geometry) (kind : List ℕ → ℕ)
-    → ((w x : List ℕ) → Sound w → Alike w x → (tests x ≡ tests w) × (geometry x ≡ geometry w) × (kind x ≡ kind w)) → MakesUnread tests geometry kind
-makes-unread tests geometry kind head w x v u r s sw k vs us a b =
-    let h = head w x sw k in
-    let given-same = b .exact ∙ ap (λ (ts : List Test). given (refusal ts) tt) (h .0) in (
-      a .exact ∙ sym given-same,
-      by-given (refusal (tests w)) (a .exact) given-same
-          (λ y z.
-          let c = a .makes y in
-          let d = b .makes z in
-          alike v u vs us (c .0) (d .0) (c .1 ∙ (rw (k .long, h .1, h .2)) ∙ sym (d .1)))
-          (λ n y z. rw (a .kept n y, b .kept n z) k),
+-- exact calls whose tests the free words leave alone
+exact-unread : {tests tests′ : List Test} {w x new new′ v u : List ℕ} {r s : Outcome (Unit {0})} → tests′ ≡ tests → Alike w x
+    → (refusal tests ≡ 0 → v ≡ new → u ≡ new′ → Alike v u) → Exact tests tt w new v r → Exact tests′ tt x new′ u s → (r ≡ s) × Alike v u
+exact-unread {tests} {tests′} {w} {x} {new} {new′} {v} {u} same old fresh a b =
+    let number : refusal tests′ ≡ refusal tests = ap refusal same in
+    let after : u ≡ left (refusal tests) x new′ = b .words ∙ ap (λ (n : ℕ). left n x new′) number in (
+      a .exact ∙ sym (b .exact ∙ ap (λ (n : ℕ). given n tt) number),
+      either-zero (refusal tests)
+          (λ z. fresh z (rw z at (a .words)) (rw z at after))
+          (λ n e. rw (a .words, after, e) old),
     )
 
-pub make-unread : (kind : ℕ) → MakesUnread (makeTests kind) (λ w. today) (λ w. kind)
-make-unread kind = makes-unread (makeTests kind) (λ w. today) (λ w. kind) (λ w x sw k. (rw (k .long), refl, refl))
+-- words that became those of two pools that hold the same
+new-alike : {w x v u : List ℕ} {p q : Pool} → p ≡ q → Words v → Words u → Sound w × (poolOf w ≡ p) → Sound x × (poolOf x ≡ q) → v ≡ w → u ≡ x → Alike v u
+new-alike {v = v} {u = u} e vs us a b f g = alike v u vs us (rw f (a .0)) (rw g (b .0)) (rw (f, g) (a .1 ∙ e ∙ sym (b .1)))
 
-pub clear-unread : MakesUnread clearTests geometryOf kindWord
-clear-unread = makes-unread clearTests geometryOf kindWord (λ w x sw k. let h = head-same w x sw k in (rw (h .0, h .2), alike-geometry w x sw k, h .1))
+pub make-unread : (kind : ℕ) → MakesUnread (Makes kind)
+make-unread kind w x v u r s sw k vs us a b =
+    let tests : makeTests kind x ≡ makeTests kind w = rw (← k .long) in
+    exact-unread tests k (λ z. new-alike (rw (k .long)) vs us (fresh-made kind w z) (fresh-made kind x (ap refusal tests ∙ z))) a b
+
+pub clear-unread : MakesUnread Clears
+clear-unread w x v u r s sw k vs us a b =
+    let h = head-same w x sw k in
+    let tests : clearTests x ≡ clearTests w = rw (h .0, h .2) in
+    exact-unread tests k
+    (λ z. new-alike (rw (k .long, h .1, alike-geometry w x sw k)) vs us (fresh-cleared w z) (fresh-cleared x (ap refusal tests ∙ z))) a b
 
 pub copy-unread : CopiesUnread
 copy-unread w x destination v u r s sw k vs us a b =
     let sx = alike-sound w x sw k in
     let tests : copyTests x destination ≡ copyTests w destination = rw (head-same w x sw k .0, alike-geometry w x sw k, ← k .long) in
-    let given-same = b .exact ∙ ap (λ (ts : List Test). given (refusal ts) tt) tests in
-    let pools : poolOf (copied w) ≡ poolOf (copied x) = copy-pool w sw ∙ ap (λ (p : Pool). withCursor p shut) (sym (alike-pool w x sw k)) ∙ sym (copy-pool x sx) in (
-      a .exact ∙ sym given-same,
-      by-given (refusal (copyTests w destination)) (a .exact) given-same
-          (λ y z. alike v u vs us (rw (a .copies y) (copy-sound w sw)) (rw (b .copies z) (copy-sound x sx)) (rw (a .copies y, b .copies z) pools))
-          (λ n y z. alike-self v u (a .kept n y ∙ sym (b .kept n z))),
-    )
+    exact-unread tests (alike-self destination destination refl)
+    (λ z. new-alike (ap (λ (p : Pool). withCursor p shut) (sym (alike-pool w x sw k))) vs us (cursorless-sound w sw, cursorless-pool w sw)
+    (cursorless-sound x sx, cursorless-pool x sx)) a b

@@ -1,4 +1,5 @@
--- A page's entries in walking order, seen from one child and cut at one entry. Over a function `f` that says what a child holds, so no levels occur here.
+-- A page's entries in walking order, seen from one child and cut at one entry. Over a function `f` that says what a
+-- child holds, so no levels occur here.
 -- Assumes nothing.
 use mathlib.Core.Path.{_≡_, refl, sym, ap, ap₂, _∙_}
 use mathlib.Core.List.{List, [], _∷_, _++_, append-assoc, append-nil}
@@ -6,7 +7,7 @@ use Prim.Native.Nat.{ℕ, suc, _+_, _<_}
 use native.Mathlib.Omega.{arith}
 use lib.ListN.{length, take, drop, getD, length-append, length-take, take-append-drop}
 use lib.Seq.{split-at}
-use Rattle.model.specs.Lists.{sum, ins, splice}
+use Rattle.model.specs.Basics.{sum, ins, splice}
 use Rattle.model.specs.Tree.{weave}
 
 module _ {S A : Type 0} (f : S → List A) where

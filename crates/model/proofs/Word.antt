@@ -8,7 +8,8 @@ use lib.Arith.{digits-mod}
 use lib.Bits.{bitAnd, bitOr, or-shr, or-step, and-shr, and-step, mask-lt}
 use lib.Count.{ones, ones-step, ones-le, trailingZeros, under}
 use lib.Pow.{pow-pos, shl-exact}
-use Rattle.model.specs.Lists.{sumTo, same}
+use Rattle.model.specs.Basics.{same}
+use Rattle.model.specs.Sums.{sumTo}
 use Rattle.model.specs.PageMap.{bit}
 use Rattle.model.proofs.Cases.{either-eq, same-self, same-eq, same-other}
 use Rattle.model.proofs.Sums.{sumTo-ext, sumTo-front}

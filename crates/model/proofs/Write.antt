@@ -1,5 +1,6 @@
--- An entry overwritten in its place: the entries are those of before but for that one, the pages are the same, and the tree keeps its shape. One like it changes nothing.
--- First of lists and of one page, over a function `f` that says what a child holds; then of trees.
+-- An entry overwritten in its place: the entries are those of before but for that one, the pages are the same, and the
+-- tree keeps its shape. One like it changes nothing. First of lists and of one page, over a function `f` that says what
+-- a child holds; then of trees.
 -- Assumes nothing.
 use mathlib.Core.Path.{_≡_, refl, sym, ap, ap₂, _∙_}
 use mathlib.Core.List.{List, _∷_, _++_}
@@ -12,7 +13,7 @@ use Rattle.model.specs.Tree.{Entry, noEntry, Tree, Whole, noTree, weave,
 use Rattle.model.specs.Gap.{slotAt, restAt, childAt}
 use Rattle.model.specs.Write.{writeAt, write}
 use Rattle.model.proofs.Cases.{either-lt}
-use Rattle.model.proofs.Lists.{splice-one, all-set, set-inside, set-seam}
+use Rattle.model.proofs.Basics.{splice-one, all-set, set-inside, set-seam}
 use Rattle.model.proofs.Sums.{sum-set-same}
 use Rattle.model.proofs.Weave.{left, right, weave-hole, weave-at, weave-one}
 use Rattle.model.proofs.Gap.{Located, way-down, child-shaped, located-below, located-here}

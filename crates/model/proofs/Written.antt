@@ -12,18 +12,19 @@ use lib.Dec.{eqb}
 use lib.ListN.{length, getD}
 use borrow.Author.Tests.{eq-eqb, ne-eqb}
 use Rattle.model.specs.declared.Geometry.{Geometry}
-use Rattle.model.specs.Lists.{tab}
+use Rattle.model.specs.Basics.{tab}
 use Rattle.model.specs.Layout.{word, mostEntries}
 use Rattle.model.specs.Head.{geometryOf, leastOf, pageCount, countWord, rootWord, levelsWord, openWord, afterWord, keyWord}
-use Rattle.model.specs.Tree.{Entry, held, Rising, Formed, Tree, meets, entries, times, Shaped, size, pagesOf}
+use Rattle.model.specs.Tree.{Entry, held, Rising, Formed, Tree, meets, entries, times, Shaped, size}
 use Rattle.model.specs.Page.{pageOf}
 use Rattle.model.specs.Standing.{Standing, rootOf}
 use Rattle.model.specs.Entries.{Cursor, shut, gap, gapAfter, has}
-use Rattle.model.specs.Pool.{Pool, heldBy, wholeOf, cursorOf, poolOf, gapIn, leastBy}
+use Rattle.model.specs.Pool.{Pool, heldBy, wholeOf, cursorOf, poolOf, openGap, leastBy}
 use Rattle.model.specs.Sound.{Sound}
 use Rattle.model.specs.Written.{openIn, headOf, Written, afterIn, keyIn}
+use Rattle.model.proofs.Numbers.{pagesOf}
 use Rattle.model.proofs.Cases.{either-eq, either-lt, same-self}
-use Rattle.model.proofs.Lists.{getD-tab}
+use Rattle.model.proofs.Basics.{getD-tab}
 use Rattle.model.proofs.Lawful.{pages-of, geometry-lawful}
 use Rattle.model.proofs.Head.{HeadFacts, head-facts, head-fits}
 use Rattle.model.proofs.Entries.{has-key, gap-after-has, gap-after-entry, has-entry}
@@ -82,7 +83,7 @@ module _ (w : List ℕ) (s : Sound w) where
 -- ---- words that hold a pool that is right
 
 -- the cursor by its three words
-cursor-back : (es : List Entry) (o a k : ℕ) (c : Cursor) → Rising es → gapIn c ≤ length es → o ≡ openIn c → a ≡ afterIn c → k ≡ keyIn es c
+cursor-back : (es : List Entry) (o a k : ℕ) (c : Cursor) → Rising es → openGap c ≤ length es → o ≡ openIn c → a ≡ afterIn c → k ≡ keyIn es c
     → cond (eqb o 0) shut (gap (cond (eqb a 0) 0 (gapAfter k es))) ≡ c
 cursor-back es o a k shut r b eo ea ek = rw (eq-eqb o 0 eo)
 cursor-back es o a k (gap zero) r b eo ea ek = rw (ne-eqb o 0 (omega arith), eq-eqb a 0 ea)
@@ -97,7 +98,7 @@ record CursorSaid (es : List Entry) (c : Cursor) : Type 0 where
   start : afterIn c ≡ 0 → keyIn es c ≡ 0
   named : afterIn c ≡ 1 → has (keyIn es c) es ≡ true
 
-cursor-says : (es : List Entry) (c : Cursor) → Rising es → gapIn c ≤ length es → CursorSaid es c
+cursor-says : (es : List Entry) (c : Cursor) → Rising es → openGap c ≤ length es → CursorSaid es c
 cursor-says es shut r b =
     record { opened = omega arith; after = omega arith; closed = λ z. (refl, refl); start = λ z. refl; named = λ z. absurd (omega arith) }
 cursor-says es (gap zero) r b =

@@ -3,12 +3,17 @@
 -- Assumes nothing: these are definitions.
 use mathlib.Core.Path.{_≡_}
 use mathlib.Core.List.{List}
-use Prim.Native.Nat.{ℕ}
+use Prim.Native.Nat.{ℕ, _^_, _<_}
 use lib.ListN.{length, take}
-use Rattle.model.specs.Layout.{mostEntries, firstWord}
+use Rattle.model.specs.Layout.{mostEntries, firstWord, word}
 use Rattle.model.specs.Head.{geometryOf, leastOf}
 use Rattle.model.specs.PageMap.{mapOf, bitAt}
-use Rattle.model.specs.Page.{pageOf, heightOf, Holds, nodeOf}
+use Rattle.model.specs.Page.{pageOf, heightOf}
+use Rattle.model.specs.Standing.{Holds, nodeOf}
+
+-- the words of a slice of u64: what its type says
+abbrev pub Words : List ℕ → Type 0
+Words w = (i : ℕ) → word w i < 2 ^ 64
 
 -- the one holds what the other says
 abbrev pub AlikePage : ℕ → List ℕ → List ℕ → Type 0

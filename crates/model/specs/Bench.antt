@@ -4,12 +4,14 @@
 use mathlib.Core.Path.{_≡_}
 use mathlib.Core.Bool.{true, false}
 use mathlib.Core.Option.{none}
-use mathlib.Core.List.{List, [], _∷_, map}
+use mathlib.Core.List.{List, [], _∷_, _++_, map}
 use Prim.Native.Nat.{ℕ}
+use Rattle.model.specs.Basics.{zeros}
 use Rattle.model.specs.Layout.{today, allowed, pagesIn, firstWord}
 use Rattle.model.specs.Tree.{Entry, Tree, Whole, entry}
 use Rattle.model.specs.Entries.{gap}
-use Rattle.model.specs.Pool.{Pool, heldBy, freeOf, made, withCursor}
+use Rattle.model.specs.Pool.{Pool, heldBy, freeOf, withCursor}
+use Rattle.model.specs.HeadCalls.{made}
 use Rattle.model.specs.Refusal.{mapKind, refusal}
 use Rattle.model.specs.Call.{Call}
 use Rattle.model.specs.MapCalls.{mapInsert, mapRemove}
@@ -39,26 +41,34 @@ abbrev pub insertAll : List ℕ → Pool → Pool
 insertAll [] p = p
 insertAll (k ∷ ks) p = insertAll ks (mapInsert k 0 .after p)
 
--- what is refused by what the pool holds
+-- what is refused by what the pool holds: 0 for no refusal; and so of each of the inserts
 abbrev pub lateNumber : {A : Type 0} → Call A → Pool → ℕ
 lateNumber c p = refusal (c .late p)
 
+abbrev pub insertNumbers : List ℕ → Pool → List ℕ
+insertNumbers [] p = []
+insertNumbers (k ∷ ks) p = lateNumber (mapInsert k 0) p ∷ insertNumbers ks (mapInsert k 0 .after p)
+
+-- no entry, in P pages
+abbrev pub noneIn : ℕ → Pool
+noneIn P = made today P mapKind
+
 -- entries 10, 20, 30, and the gap at g
+abbrev pub tens : List ℕ
+tens = 10 ∷ 20 ∷ 30 ∷ []
+
 abbrev pub three : Pool
-three = insertAll (10 ∷ 20 ∷ 30 ∷ []) (made today 1 mapKind)
+three = insertAll tens (noneIn 1)
 
 abbrev pub threeAt : ℕ → Pool
 threeAt g = withCursor three (gap g)
 
--- ten rising keys in P pages
-abbrev pub rising : ℕ → List ℕ → Pool
-rising P ks = insertAll ks (made today P mapKind)
-
-abbrev pub nine : List ℕ
-nine = 1 ∷ 2 ∷ 3 ∷ 4 ∷ 5 ∷ 6 ∷ 7 ∷ 8 ∷ 9 ∷ []
+-- ten rising keys
+abbrev pub oneToTen : List ℕ
+oneToTen = 1 ∷ 2 ∷ 3 ∷ 4 ∷ 5 ∷ 6 ∷ 7 ∷ 8 ∷ 9 ∷ 10 ∷ []
 
 abbrev pub ten : Pool
-ten = mapInsert 10 0 .after (rising 3 nine)
+ten = insertAll oneToTen (noneIn 3)
 
 abbrev pub without8 : Pool
 without8 = mapRemove 8 .after ten
@@ -67,6 +77,7 @@ abbrev pub without1 : Pool
 without1 = mapRemove 1 .after without8
 
 pub record Table : Type 0 where
+  pub tens-room : insertNumbers tens (noneIn 1) ≡ zeros 3
   pub a : cursorOpenLower 0 20 .after three .cursor ≡ gap 1
   pub b : cursorOpenLower 1 20 .after three .cursor ≡ gap 2
   pub c : cursorOpenUpper 0 20 .after three .cursor ≡ gap 2
@@ -80,9 +91,9 @@ pub record Table : Type 0 where
   pub i-gap : cursorInsertAfter 15 0 .after (threeAt 1) .cursor ≡ gap 1
   pub j : cursorNext .answer (threeAt 3) ≡ none
   pub j-gap : cursorNext .after (threeAt 3) .cursor ≡ gap 3
-  pub k-room : lateNumber (mapInsert 10 0) (rising 3 nine) ≡ 0
+  pub k-room : insertNumbers oneToTen (noneIn 3) ≡ zeros 10
   pub k : ten .whole ≡ twoLevels (upper 2 (6 ∷ []) (leaf 0 (1 ∷ 2 ∷ 3 ∷ 4 ∷ 5 ∷ []) ∷ leaf 1 (7 ∷ 8 ∷ 9 ∷ 10 ∷ []) ∷ []))
-  pub l : lateNumber (mapInsert 10 0) (rising 2 nine) ≡ 7
+  pub l : insertNumbers oneToTen (noneIn 2) ≡ zeros 9 ++ (7 ∷ [])
   pub m : without8 .whole ≡ twoLevels (upper 2 (5 ∷ []) (leaf 0 (1 ∷ 2 ∷ 3 ∷ 4 ∷ []) ∷ leaf 1 (6 ∷ 7 ∷ 9 ∷ 10 ∷ []) ∷ []))
   pub n : without1 .whole ≡ oneLevel (leaf 0 (2 ∷ 3 ∷ 4 ∷ 5 ∷ 6 ∷ 7 ∷ 9 ∷ 10 ∷ []))
   pub n-free : freeOf without1 ≡ 1 ∷ 2 ∷ []

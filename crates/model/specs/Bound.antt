@@ -1,5 +1,5 @@
--- Document 01, "The calls", bounds: kind 0 is Included, 1 is Excluded, 2 is Unbounded, the key then ignored. Which keys come before a bound is the
--- source's `before_lower_bound` and `before_upper_bound`.
+-- Document 01, "The calls", bounds: kind 0 is Included, 1 is Excluded, 2 is Unbounded, the key then ignored. Which keys
+-- come before a bound is the source's `before_lower_bound` and `before_upper_bound`.
 -- Assumes nothing: these are definitions.
 use mathlib.Core.Bool.{Bool, true, false}
 use Prim.Native.Nat.{ℕ, zero, suc}

@@ -8,20 +8,20 @@ use mathlib.Core.List.{List, [], _∷_}
 use Prim.Native.Nat.{ℕ, pred}
 use Rattle.model.specs.Tree.{Entry, entry}
 use Rattle.model.specs.Bound.{Bound, included, excluded, unbounded, boundOf, beforeLower, beforeUpper}
-use Rattle.model.specs.Entries.{gapOf, shut, gap, next, prev, keyFits, forth, back, valueOf}
+use Rattle.model.specs.Entries.{gapOf, gap, next, prev, keyFits, forth, back, valueOf}
 use Rattle.model.specs.Remove.{remove}
 use Rattle.model.specs.Write.{write}
 use Rattle.model.specs.Pool.{Pool, leastBy, heldBy, gapBy, withWhole, withCursor}
-use Rattle.model.specs.Refusal.{Test, _when_, mapKind, unfit, otherKind, badBound, noBound, opened, closed}
-use Rattle.model.specs.Call.{Call}
-use Rattle.model.specs.PoolCalls.{reads}
+use Rattle.model.specs.Refusal.{Test, _when_, mapKind, unfit, otherKind, badBound, noBound, whileOpen, whileClosed}
+use Rattle.model.specs.Call.{Call, Outcome, Exact, reads}
+use Rattle.model.specs.PoolCalls.{cursorless}
 use Rattle.model.specs.MapCalls.{putAt, crowded}
 
 abbrev pub openTests : ℕ → List ℕ → List Test
-openTests kind w = unfit w ∷ otherKind mapKind w ∷ badBound (noBound kind) ∷ opened w ∷ []
+openTests kind w = unfit w ∷ otherKind mapKind w ∷ badBound (noBound kind) ∷ whileOpen w ∷ []
 
 abbrev pub cursorTests : List ℕ → List Test
-cursorTests w = unfit w ∷ otherKind mapKind w ∷ closed w ∷ []
+cursorTests w = unfit w ∷ otherKind mapKind w ∷ whileClosed w ∷ []
 
 -- the entry after the gap, and the one before it
 abbrev pub nextOf : Pool → Option Entry
@@ -44,7 +44,27 @@ abbrev pub strikeNext : Option Entry → Pool → Pool
 strikeNext none p = p
 strikeNext (some e) p = withWhole p (remove (leastBy p) (p .whole) (gapBy p))
 
+-- a call on the entry beside the gap, where there is one; where there is none that is the answer, and nothing changes
+abbrev pub beside : {A : Type 0} → (Pool → Option Entry) → (Option Entry → A) → (Option Entry → Pool → Pool) → Call A
+beside side answer after = record {
+  early = cursorTests;
+  late = λ p. [];
+  answer = λ p. answer (side p);
+  after = λ p. after (side p) p;
+  still = λ p. missing (side p);
+}
+
 -- ---- the calls
+
+-- at the gap behind the entries that come `before`, with so many pages read of so many levels
+abbrev pub opens : ℕ → (ℕ → Bool) → (ℕ → ℕ) → Call ℕ
+opens kind before read = record {
+  early = openTests kind;
+  late = λ p. [];
+  answer = λ p. read (p .whole .levels);
+  after = λ p. withCursor p (gap (gapOf before (heldBy p)));
+  still = λ p. false;
+}
 
 -- opening reads all levels, except that lower Unbounded reads none
 abbrev pub lowerRead : Bound → ℕ → ℕ
@@ -53,40 +73,16 @@ lowerRead (excluded k) levels = levels
 lowerRead unbounded levels = 0
 
 abbrev pub cursorOpenLower : ℕ → ℕ → Call ℕ
-cursorOpenLower kind k = record {
-  early = openTests kind;
-  late = λ p. [];
-  answer = λ p. lowerRead (boundOf kind k) (p .whole .levels);
-  after = λ p. withCursor p (gap (gapOf (beforeLower (boundOf kind k)) (heldBy p)));
-  still = λ p. false;
-}
+cursorOpenLower kind k = opens kind (beforeLower (boundOf kind k)) (lowerRead (boundOf kind k))
 
 abbrev pub cursorOpenUpper : ℕ → ℕ → Call ℕ
-cursorOpenUpper kind k = record {
-  early = openTests kind;
-  late = λ p. [];
-  answer = λ p. p .whole .levels;
-  after = λ p. withCursor p (gap (gapOf (beforeUpper (boundOf kind k)) (heldBy p)));
-  still = λ p. false;
-}
+cursorOpenUpper kind k = opens kind (beforeUpper (boundOf kind k)) (λ levels. levels)
 
 abbrev pub cursorNext : Call (Option Entry)
-cursorNext = record {
-  early = cursorTests;
-  late = λ p. [];
-  answer = nextOf;
-  after = λ p. withCursor p (gap (forth (nextOf p) (gapBy p)));
-  still = λ p. missing (nextOf p);
-}
+cursorNext = beside nextOf (λ e. e) (λ e p. withCursor p (gap (forth e (gapBy p))))
 
 abbrev pub cursorPrev : Call (Option Entry)
-cursorPrev = record {
-  early = cursorTests;
-  late = λ p. [];
-  answer = prevOf;
-  after = λ p. withCursor p (gap (back (prevOf p) (gapBy p)));
-  still = λ p. missing (prevOf p);
-}
+cursorPrev = beside prevOf (λ e. e) (λ e p. withCursor p (gap (back e (gapBy p))))
 
 abbrev pub cursorPeekNext : Call (Option Entry)
 cursorPeekNext = reads cursorTests nextOf
@@ -95,22 +91,10 @@ abbrev pub cursorPeekPrev : Call (Option Entry)
 cursorPeekPrev = reads cursorTests prevOf
 
 abbrev pub cursorWriteNext : ℕ → Call (Option ℕ)
-cursorWriteNext v = record {
-  early = cursorTests;
-  late = λ p. [];
-  answer = λ p. valueOf (nextOf p);
-  after = λ p. rewrite (nextOf p) (gapBy p) v p;
-  still = λ p. missing (nextOf p);
-}
+cursorWriteNext v = beside nextOf valueOf (λ e p. rewrite e (gapBy p) v p)
 
 abbrev pub cursorWritePrev : ℕ → Call (Option ℕ)
-cursorWritePrev v = record {
-  early = cursorTests;
-  late = λ p. [];
-  answer = λ p. valueOf (prevOf p);
-  after = λ p. rewrite (prevOf p) (pred (gapBy p)) v p;
-  still = λ p. missing (prevOf p);
-}
+cursorWritePrev v = beside prevOf valueOf (λ e p. rewrite e (pred (gapBy p)) v p)
 
 abbrev pub cursorInsertAfter : ℕ → ℕ → Call (Unit {0})
 cursorInsertAfter k v = record {
@@ -122,13 +106,8 @@ cursorInsertAfter k v = record {
 }
 
 abbrev pub cursorRemoveNext : Call (Option Entry)
-cursorRemoveNext = record {
-  early = cursorTests;
-  late = λ p. [];
-  answer = nextOf;
-  after = λ p. strikeNext (nextOf p) p;
-  still = λ p. missing (nextOf p);
-}
+cursorRemoveNext = beside nextOf (λ e. e) strikeNext
 
-abbrev pub cursorClose : Call (Unit {0})
-cursorClose = record { early = cursorTests; late = λ p. []; answer = λ p. tt; after = λ p. withCursor p shut; still = λ p. false }
+-- close looks at the head alone, so it is exact on any words
+abbrev pub Closes : (before after : List ℕ) → Outcome (Unit {0}) → Type 0
+Closes w = Exact (cursorTests w) tt w (cursorless w)

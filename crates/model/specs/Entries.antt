@@ -1,13 +1,13 @@
--- The list model, which is what the source speaks of: the entries in key order, and the cursor, shut or in a gap from 0 to n (the source's `position`).
--- What each call answers and leaves, as short functions on lists.
+-- The list model, which is what the source speaks of: the entries in key order, and the cursor, shut or in a gap from 0
+-- to n (the source's `position`). What the calls answer, as short functions on lists.
 -- Assumes nothing: these are definitions.
 use mathlib.Core.Bool.{Bool, true, false, cond}
 use mathlib.Core.Option.{Option, none, some}
 use mathlib.Core.List.{List, [], _∷_}
-use Prim.Native.Nat.{ℕ, zero, suc}
+use Prim.Native.Nat.{ℕ, zero, suc, pred}
 use lib.Dec.{leb, ltb, eqb}
-use lib.ListN.{set, getElem?}
-use Rattle.model.specs.Lists.{ins, del, those, every}
+use lib.ListN.{getElem?}
+use Rattle.model.specs.Basics.{those, every}
 use Rattle.model.specs.Tree.{Entry}
 use Rattle.model.specs.Bound.{Bound, beforeLower, beforeUpper}
 
@@ -34,18 +34,7 @@ gapBefore k es = gapOf (λ x. ltb x k) es
 abbrev pub gapAfter : ℕ → List Entry → ℕ
 gapAfter k es = gapOf (λ x. leb x k) es
 
--- ---- map and set
-
-unfoldable pub filed : Entry → List Entry → List Entry
-filed e es =
-    let g = gapBefore (e .key) es in
-    cond (has (e .key) es) (set es g e) (ins g e es)
-
-unfoldable pub replaced : Entry → List Entry → List Entry
-replaced e es = cond (has (e .key) es) (set es (gapBefore (e .key) es) e) es
-
-unfoldable pub removed : ℕ → List Entry → List Entry
-removed k es = cond (has k es) (del (gapBefore k es) es) es
+-- ---- lists
 
 -- the entries that are not before the lower bound and are before the upper one
 abbrev pub inside : Bound → Bound → Entry → Bool
@@ -87,8 +76,7 @@ forth (some e) g = suc g
 
 abbrev pub back : Option Entry → ℕ → ℕ
 back none g = g
-back (some e) zero = zero
-back (some e) (suc g) = g
+back (some e) g = pred g
 
 -- the value of an entry that there may be
 abbrev pub valueOf : Option Entry → Option ℕ

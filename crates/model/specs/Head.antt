@@ -7,7 +7,7 @@ use Prim.Native.Nat.{ℕ, _+_, _*_, _-_}
 use lib.Dec.{leb, eqb}
 use lib.ListN.{length}
 use Rattle.model.specs.declared.Geometry.{Geometry}
-use Rattle.model.specs.Lists.{tab, every}
+use Rattle.model.specs.Basics.{tab, every}
 use Rattle.model.specs.Layout.{headWords, mostLevels, mostEntries, today, pagesIn, allowed, word}
 
 -- the geometry that the head names: document 01 has one; its m; and P, by the length

@@ -1,12 +1,13 @@
--- Document 01, "How the tree moves", insertion, by position: an entry put at a gap. Over m, the fewest entries of a page; a page holds at most 2m + 1.
--- One page's step is over any type of child: page numbers in words, trees in the model.
+-- Document 01, "How the tree moves", insertion, by position: an entry put at a gap. Over m, the fewest entries of a
+-- page; a page holds at most 2m + 1. One page's step is over any type of child: page numbers in words, trees in the
+-- model.
 -- Assumes nothing: these are definitions.
 use mathlib.Core.Bool.{cond}
 use mathlib.Core.List.{[], _∷_}
 use Prim.Native.Nat.{ℕ, zero, suc}
 use lib.Dec.{leb, eqb}
 use lib.ListN.{length, take, drop, getD}
-use Rattle.model.specs.Lists.{ins, splice}
+use Rattle.model.specs.Basics.{ins, splice}
 use Rattle.model.specs.Layout.{mostEntries}
 use Rattle.model.specs.Tree.{Entry, Node, Tree, Whole, noEntry}
 use Rattle.model.specs.Gap.{slotAt, restAt, childAt}
@@ -46,7 +47,8 @@ module _ {S : Type 0} where
   put m q x i (whole c) = whole (withChild x i c)
   put m q x i (split l e r) = fit m q (grown x i l e r)
 
--- `fresh k` is the page that is taken k-th. Where a page with h levels below it splits, all below it on the path have split, so it takes page `fresh h`
+-- `fresh k` is the page that is taken k-th. Where a page with h levels below it splits, all below it on the path have
+-- split, so it takes page `fresh h`
 unfoldable pub insertAt : (m : ℕ) → (ℕ → ℕ) → (h : ℕ) → Tree h → ℕ → Entry → Up (Tree h)
 insertAt m fresh zero t g e = split tt e tt
 insertAt m fresh (suc h) t g e = put m (fresh h) t (slotAt h t g) (insertAt m fresh h (childAt h t g) (restAt h t g) e)
@@ -61,7 +63,8 @@ insert m fresh x g e = top (fresh (x .levels)) (x .levels) (insertAt m fresh (x 
 
 -- ---- the pages an insert needs
 
--- a run of k full pages from the leaf upward, at a page of `count` entries with h levels below it: an unbroken run goes on through a full page
+-- a run of k full pages from the leaf upward, at a page of `count` entries with h levels below it: an unbroken run goes
+-- on through a full page
 abbrev pub onward : (m h count k : ℕ) → ℕ
 onward m h count k = cond (eqb k h) (cond (leb (suc count) (mostEntries m)) k (suc h)) k
 

@@ -4,11 +4,11 @@
 -- Assumes nothing: these are definitions.
 use mathlib.Core.Bool.{Bool}
 use mathlib.Core.List.{List, [], _∷_}
-use Prim.Native.Nat.{ℕ, _+_, _*_, _-_, _/_, _^_, _<_}
+use Prim.Native.Nat.{ℕ, _+_, _*_, _-_, _/_}
 use lib.Dec.{leb, eqb}
 use lib.ListN.{getD}
 use Rattle.model.specs.declared.Geometry.{Geometry}
-use Rattle.model.specs.Lists.{every}
+use Rattle.model.specs.Basics.{every}
 
 abbrev pub headWords : ℕ
 headWords = 32
@@ -51,7 +51,3 @@ allowed γ n = every (lengthTests γ n)
 -- word i of a pool or of a page
 abbrev pub word : List ℕ → ℕ → ℕ
 word w i = getD w i 0
-
--- the words of a slice of u64: what its type says
-abbrev pub Words : List ℕ → Type 0
-Words w = (i : ℕ) → word w i < 2 ^ 64

@@ -1,12 +1,13 @@
--- Document 01, "The calls": list takes a lower and an upper bound and fills lent slices with the entries that are not before the lower one and are before
--- the upper one, in key order. It writes the lesser of their number and the shortest slice, and changes nothing past them. Bounds that cross give none.
+-- Document 01, "The calls": list takes a lower and an upper bound and fills lent slices with the entries that are not
+-- before the lower one and are before the upper one, in key order. It writes the lesser of their number and the
+-- shortest slice, and changes nothing past them. Bounds that cross give none.
 -- Assumes nothing: these are definitions.
 use mathlib.Core.Path.{_≡_}
 use mathlib.Core.Bool.{_||_}
 use mathlib.Core.List.{List, [], _∷_, _++_, map}
 use Prim.Native.Nat.{ℕ, suc, min}
 use lib.ListN.{drop, length, take}
-use Rattle.model.specs.Lists.{All}
+use Rattle.model.specs.Basics.{All}
 use Rattle.model.specs.Tree.{Entry}
 use Rattle.model.specs.Bound.{Bound}
 use Rattle.model.specs.Entries.{between}
@@ -41,8 +42,8 @@ abbrev pub listed : Bound → Bound → List Column → Pool → List Entry
 listed low high cs p = take (shortest cs) (between low high (heldBy p))
 
 -- a slice with `front` at its front
-abbrev pub written : List ℕ → List ℕ → List ℕ
-written front slice = front ++ drop (length front) slice
+abbrev pub fronted : List ℕ → List ℕ → List ℕ
+fronted front slice = front ++ drop (length front) slice
 
 -- r is what the caller is given: how many entries were written
 pub record Lists (tests : List Test) (low high : Bound) (w : List ℕ) (cs : List Column) (r : Outcome ℕ) : Type 0 where
@@ -53,4 +54,4 @@ pub record Lists (tests : List Test) (low high : Bound) (w : List ℕ) (cs : Lis
   pub kept : (n : ℕ) → r ≡ refused n → All (λ c. c .after ≡ c .before) cs
   -- on a sound pool
   pub exact : Sound w → refusal tests ≡ 0 → r ≡ answered (length (listed low high cs (poolOf w)))
-  pub writes : Sound w → refusal tests ≡ 0 → All (λ c. c .after ≡ written (map (c .part) (listed low high cs (poolOf w))) (c .before)) cs
+  pub writes : Sound w → refusal tests ≡ 0 → All (λ c. c .after ≡ fronted (map (c .part) (listed low high cs (poolOf w))) (c .before)) cs

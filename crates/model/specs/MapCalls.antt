@@ -6,16 +6,16 @@ use mathlib.Core.Option.{Option}
 use mathlib.Core.List.{List, [], _∷_}
 use Prim.Native.Nat.{ℕ}
 use lib.Dec.{ltb}
+use lib.ListN.{length}
 use Rattle.model.specs.Tree.{Entry, entry}
 use Rattle.model.specs.Entries.{has, lookup, gapBefore}
-use Rattle.model.specs.Gap.{Found, depth}
+use Rattle.model.specs.Search.{searchPath, Found, Seen}
 use Rattle.model.specs.Insert.{insert, needed}
 use Rattle.model.specs.Remove.{remove}
 use Rattle.model.specs.Write.{write}
 use Rattle.model.specs.Pool.{Pool, leastBy, heldBy, room, freshOf, withWhole}
-use Rattle.model.specs.Refusal.{Test, _when_, mapKind, unfit, otherKind, opened}
-use Rattle.model.specs.Call.{Call}
-use Rattle.model.specs.PoolCalls.{reads}
+use Rattle.model.specs.Refusal.{Test, _when_, mapKind, unfit, otherKind, whileOpen}
+use Rattle.model.specs.Call.{Call, reads}
 
 -- ---- shared with the set
 
@@ -24,7 +24,7 @@ abbrev pub readTests : ℕ → List ℕ → List Test
 readTests kind w = unfit w ∷ otherKind kind w ∷ []
 
 abbrev pub changeTests : ℕ → List ℕ → List Test
-changeTests kind w = unfit w ∷ otherKind kind w ∷ opened w ∷ []
+changeTests kind w = unfit w ∷ otherKind kind w ∷ whileOpen w ∷ []
 
 -- entry e put at gap g; and whether the pages it needs are more than are free
 abbrev pub putAt : ℕ → Entry → Pool → Pool
@@ -46,14 +46,9 @@ noRoom k p = cond (has k (heldBy p)) false (crowded (gapBefore k (heldBy p)) p)
 unfoldable pub strike : ℕ → Pool → Pool
 strike k p = cond (has k (heldBy p)) (withWhole p (remove (leastBy p) (p .whole) (gapBefore k (heldBy p)))) p
 
--- the pages from the root to the page that holds the key, or all levels if it is absent
+-- the pages read in the search for a key: the length of its search path
 unfoldable pub pagesRead : ℕ → Pool → ℕ
-pagesRead k p = cond (has k (heldBy p)) (depth (p .whole .levels) (p .whole .tree) (gapBefore k (heldBy p))) (p .whole .levels)
-
--- whether, and the pages read
-pub record Seen : Type 0 where
-  pub present : Bool
-  pub read : ℕ
+pagesRead k p = length (searchPath k (p .whole .levels) (p .whole .tree))
 
 -- ---- the calls
 

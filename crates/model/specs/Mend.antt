@@ -1,13 +1,13 @@
--- Document 01, "How the tree moves": a page left with one entry too few is mended. Over any type S of what hangs below the two neighbours.
--- All mendings act on two neighbours, children j and j + 1, with the entry between them: the three are glued into one page, which stays so
--- (`join`), or is cut again behind n entries (`move`: one goes through the parent).
+-- Document 01, "How the tree moves": a page left with one entry too few is mended. Over any type S of what hangs below
+-- the two neighbours. All mendings act on children j and j + 1, with the entry between them: the three are glued into
+-- one page, which stays so (`join`), or is cut again behind n entries (`move`: one goes through the parent).
 -- Assumes nothing: these are definitions.
 use mathlib.Core.Bool.{cond}
 use mathlib.Core.List.{List, [], _∷_, _++_}
 use Prim.Native.Nat.{ℕ, zero, suc, _-_}
 use lib.Dec.{leb, ltb}
 use lib.ListN.{length, take, drop, getD}
-use Rattle.model.specs.Lists.{del}
+use Rattle.model.specs.Basics.{del}
 use Rattle.model.specs.Tree.{Entry, Node, noEntry, noNode}
 use Rattle.model.specs.Insert.{cutLeft, cutRight}
 
@@ -16,8 +16,9 @@ pub data Plan : Type 0 where
   move : ℕ → ℕ → Plan
   join : ℕ → Plan
 
--- of a page with n entries whose child j has `count j`, child i is to be mended: it takes one through the parent from its left neighbour if that has
--- m + 1 or more, else from its right neighbour likewise, else joins with its left neighbour if there is one, else with its right
+-- of a page with n entries whose child j has `count j`, child i is to be mended: it takes one through the parent from
+-- its left neighbour if that has m + 1 or more, else from its right neighbour likewise, else joins with its left
+-- neighbour if there is one, else with its right; in a join the left page stays
 unfoldable pub fromRight : (m n : ℕ) → (ℕ → ℕ) → ℕ → Plan → Plan
 fromRight m n count i other = cond (ltb i n) (cond (ltb m (count (suc i))) (move i (suc (count i))) other) other
 
@@ -54,9 +55,3 @@ module _ {S : Type 0} where
     own = del j (t .own);
     children = take j (t .children) ++ pair t j ∷ drop (suc (suc j)) (t .children);
   }
-
-  -- in a join the left page stays and the right page is freed
-  unfoldable pub spare : Plan → Node (Node S) → List ℕ
-  spare keep t = []
-  spare (move j n) t = []
-  spare (join j) t = (nodeAt t (suc j)) .page ∷ []

@@ -4,13 +4,13 @@
 -- Assumes nothing: these are definitions.
 use mathlib.Core.Path.{_≡_}
 use mathlib.Core.List.{List, map}
-use Prim.Native.Nat.{ℕ, zero, suc, _+_, _*_, _<_}
+use Prim.Native.Nat.{ℕ, zero, suc, _+_, _*_}
 use lib.ListN.{take, drop}
 use Rattle.model.specs.declared.Geometry.{Geometry}
-use Rattle.model.specs.Lists.{tab, All}
+use Rattle.model.specs.Basics.{tab, All}
 use Rattle.model.specs.Layout.{pageWords, mostEntries, firstWord, word}
 use Rattle.model.specs.Head.{geometryOf}
-use Rattle.model.specs.Tree.{Entry, Node, Tree}
+use Rattle.model.specs.Tree.{Entry, Tree}
 
 -- the words of page p: in a geometry; in the one that the head names
 unfoldable pub pageAt : Geometry → List ℕ → ℕ → List ℕ
@@ -46,16 +46,6 @@ entriesOf most page = tab (countOf page) (entryIn most page)
 
 unfoldable pub childrenOf : ℕ → List ℕ → List ℕ
 childrenOf most page = tab (suc (countOf page)) (childIn most page)
-
--- page p as its words have it, children by number
-abbrev pub nodeOf : ℕ → ℕ → List ℕ → Node ℕ
-nodeOf most p page = record { page = p; own = entriesOf most page; children = childrenOf most page }
-
--- a page of height h, with the entries of x and, above the leaves, its children; a leaf's child words may be anything
-pub record Holds (most h : ℕ) (x : Node ℕ) (page : List ℕ) : Type 0 where
-  pub height : heightOf page ≡ h
-  pub own : entriesOf most page ≡ x .own
-  pub children : 0 < h → childrenOf most page ≡ x .children
 
 -- the tree of h levels whose root is page p
 unfoldable pub readTree : ℕ → (ℕ → List ℕ) → (h : ℕ) → ℕ → Tree h

@@ -4,11 +4,10 @@
 -- Assumes nothing: these are definitions.
 use mathlib.Core.Bool.{cond}
 use mathlib.Core.List.{List, [], _∷_}
-use Prim.Native.Nat.{ℕ, zero, suc, _*_, _/_, _%_, _^_}
+use Prim.Native.Nat.{ℕ, zero, suc, _/_, _%_, _^_}
 use lib.Dec.{eqb}
-use lib.ListN.{length, take, drop, getD}
+use lib.ListN.{take, drop, getD}
 use Rattle.model.specs.declared.Geometry.{Geometry}
-use Rattle.model.specs.Lists.{sumTo}
 use Rattle.model.specs.Layout.{headWords, mapWords}
 use Rattle.model.specs.Head.{geometryOf}
 
@@ -26,10 +25,6 @@ bit x b = x / 2 ^ b % 2
 -- page p's bit; 0 past the words
 unfoldable pub bitAt : List ℕ → ℕ → ℕ
 bitAt words p = bit (getD words (p / 64) 0) (p % 64)
-
--- how many bits are 1
-unfoldable pub countBits : List ℕ → ℕ
-countBits words = sumTo (bitAt words) (64 * length words)
 
 -- of the n pages from p on, those at which `taken` is 0, lowest first
 unfoldable pub freeFrom : (ℕ → ℕ) → ℕ → ℕ → List ℕ

@@ -9,7 +9,7 @@ use lib.ListN.{length, getD}
 use Rattle.model.specs.declared.Geometry.{Geometry}
 use Rattle.model.specs.Head.{geometryOf, leastOf, pageCount, rootWord, levelsWord, openWord, afterWord, keyWord, kindWord}
 use Rattle.model.specs.PageMap.{freePages}
-use Rattle.model.specs.Tree.{Entry, Whole, empty, held, meets}
+use Rattle.model.specs.Tree.{Entry, Whole, held, meets}
 use Rattle.model.specs.Page.{pageOf, readTree}
 use Rattle.model.specs.Entries.{Cursor, shut, gap, gapAfter}
 
@@ -38,12 +38,12 @@ abbrev pub freshOf : Pool → ℕ → ℕ
 freshOf p k = getD (freeOf p) k 0
 
 -- an open cursor's gap
-abbrev pub gapIn : Cursor → ℕ
-gapIn shut = 0
-gapIn (gap g) = g
+abbrev pub openGap : Cursor → ℕ
+openGap shut = 0
+openGap (gap g) = g
 
 abbrev pub gapBy : Pool → ℕ
-gapBy p = gapIn (p .cursor)
+gapBy p = openGap (p .cursor)
 
 -- the same pool with another tree, or with the cursor elsewhere
 abbrev pub withWhole : Pool → Whole → Pool
@@ -51,10 +51,6 @@ withWhole p x = record { geometry = p .geometry; pages = p .pages; kind = p .kin
 
 abbrev pub withCursor : Pool → Cursor → Pool
 withCursor p c = record { geometry = p .geometry; pages = p .pages; kind = p .kind; whole = p .whole; cursor = c }
-
--- a pool just made
-abbrev pub made : Geometry → ℕ → ℕ → Pool
-made γ P kind = record { geometry = γ; pages = P; kind = kind; whole = empty; cursor = shut }
 
 -- ---- read from words
 

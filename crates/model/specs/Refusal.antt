@@ -1,5 +1,5 @@
--- Document 01, "Numbers a caller can be given": the order 1, 2, 3, 8, 4, 5, 9, 6, 7, said once, and the tests that need only lengths, head and arguments.
--- 9 has no test: it is never given on a sound pool, and never owed.
+-- Document 01, "Numbers a caller can be given": the order 1, 2, 3, 8, 4, 5, 9, 6, 7, said once, and the tests that need
+-- only lengths, head and arguments. 9 has no test: it is never given on a sound pool, and never owed.
 -- Assumes nothing: these are definitions.
 use mathlib.Core.Bool.{Bool, true, false, not, cond}
 use mathlib.Core.List.{List, [], _∷_}
@@ -53,11 +53,11 @@ otherKind kind w = 2 when not (eqb (kindWord w) kind)
 abbrev pub badBound : Bool → Test
 badBound b = 3 when b
 
-abbrev pub opened : List ℕ → Test
-opened w = 4 when eqb (openWord w) 1
+abbrev pub whileOpen : List ℕ → Test
+whileOpen w = 4 when eqb (openWord w) 1
 
-abbrev pub closed : List ℕ → Test
-closed w = 5 when eqb (openWord w) 0
+abbrev pub whileClosed : List ℕ → Test
+whileClosed w = 5 when eqb (openWord w) 0
 
 -- a bound kind of 3 or more
 abbrev pub noBound : ℕ → Bool

@@ -10,21 +10,21 @@ use Prim.Native.Nat.{ℕ, suc, pred, _+_, _*_, _^_, _≤_}
 use lib.ListN.{length}
 use Rattle.model.specs.declared.Geometry.{Geometry}
 use Rattle.model.specs.Layout.{today, firstWord}
-use Rattle.model.specs.Head.{geometryOf, kindWord, levelsWord}
+use Rattle.model.specs.Head.{geometryOf, levelsWord}
 use Rattle.model.specs.PageMap.{mapOf, bitAt}
 use Rattle.model.specs.Tree.{Entry}
 use Rattle.model.specs.Page.{pageOf, heightOf}
 use Rattle.model.specs.Bound.{boundOf}
-use Rattle.model.specs.Gap.{Found}
+use Rattle.model.specs.Search.{Found, Seen}
 use Rattle.model.specs.Pool.{heldBy, poolOf}
 use Rattle.model.specs.Sound.{Sound}
 use Rattle.model.specs.Reached.{Reached}
 use Rattle.model.specs.Call.{Outcome, refused, answered, Meets}
-use Rattle.model.specs.PoolCalls.{makeTests, clearTests, Makes, Copies, Checks, poolCount, poolIsEmpty}
-use Rattle.model.specs.MapCalls.{Seen, mapInsert, mapGet, mapContains, mapReplace, mapRemove}
+use Rattle.model.specs.PoolCalls.{Makes, Clears, Counts, TellsEmpty, Copies, Checks}
+use Rattle.model.specs.MapCalls.{mapInsert, mapGet, mapContains, mapReplace, mapRemove}
 use Rattle.model.specs.SetCalls.{setInsert, setGet, setContains, setRemove}
 use Rattle.model.specs.ListCalls.{Column, listTests, Lists}
-use Rattle.model.specs.CursorCalls.{cursorOpenLower, cursorOpenUpper, cursorNext, cursorPrev, cursorPeekNext, cursorPeekPrev, cursorWriteNext, cursorWritePrev, cursorInsertAfter, cursorRemoveNext, cursorClose}
+use Rattle.model.specs.CursorCalls.{cursorOpenLower, cursorOpenUpper, cursorNext, cursorPrev, cursorPeekNext, cursorPeekPrev, cursorWriteNext, cursorWritePrev, cursorInsertAfter, cursorRemoveNext, Closes}
 use Rattle.model.specs.Playback.{Plays}
 
 -- ---- what an answer counts for: 1 or 0; a refusal counts for nothing
@@ -54,14 +54,14 @@ isDone (answered a) = 1
 
 pub data Use (w : List ℕ) : List ℕ → ℕ → ℕ → Type 0 where
   -- calls that begin anew (below), where they are refused
-  byMake : {v : List ℕ} (kind n : ℕ) → Makes (makeTests kind w) today kind w v (refused n) → Use w v 0 0
-  byClear : {v : List ℕ} (n : ℕ) → Makes (clearTests w) (geometryOf w) (kindWord w) w v (refused n) → Use w v 0 0
+  byMake : {v : List ℕ} (kind n : ℕ) → Makes kind w v (refused n) → Use w v 0 0
+  byClear : {v : List ℕ} (n : ℕ) → Clears w v (refused n) → Use w v 0 0
   byCopyIn : {v : List ℕ} (source : List ℕ) (n : ℕ) → Copies source w v (refused n) → Use w v 0 0
   -- a pool of either kind; check, copying out and lists are lent the words to be read, so they stay
   byCopyOut : (destination after : List ℕ) (r : Outcome (Unit {0})) → Copies w destination after r → Use w w 0 0
   byCheck : (r : Bool) → Checks w r → Use w w 0 0
-  byCount : {v : List ℕ} (r : Outcome ℕ) → Meets poolCount w v r → Use w v 0 0
-  byIsEmpty : {v : List ℕ} (r : Outcome Bool) → Meets poolIsEmpty w v r → Use w v 0 0
+  byCount : {v : List ℕ} (r : Outcome ℕ) → Counts w v r → Use w v 0 0
+  byIsEmpty : {v : List ℕ} (r : Outcome Bool) → TellsEmpty w v r → Use w v 0 0
   -- a map
   byInsert : {v : List ℕ} (k x : ℕ) (r : Outcome (Option ℕ)) → Meets (mapInsert k x) w v r → Use w v (isNew r) 0
   byGet : {v : List ℕ} (k : ℕ) (r : Outcome Found) → Meets (mapGet k) w v r → Use w v 0 0
@@ -87,7 +87,7 @@ pub data Use (w : List ℕ) : List ℕ → ℕ → ℕ → Type 0 where
   byWritePrev : {v : List ℕ} (x : ℕ) (r : Outcome (Option ℕ)) → Meets (cursorWritePrev x) w v r → Use w v 0 0
   byInsertAfter : {v : List ℕ} (k x : ℕ) (r : Outcome (Unit {0})) → Meets (cursorInsertAfter k x) w v r → Use w v (isDone r) 0
   byRemoveNext : {v : List ℕ} (r : Outcome (Option Entry)) → Meets cursorRemoveNext w v r → Use w v 0 (isThere r)
-  byClose : {v : List ℕ} (r : Outcome (Unit {0})) → Meets cursorClose w v r → Use w v 0 0
+  byClose : {v : List ℕ} (r : Outcome (Unit {0})) → Closes w v r → Use w v 0 0
   byPlay : {v : List ℕ} (cs : List Column) (r : Outcome ℕ) → Plays w v cs r → Use w v 0 0
 
 -- ---- a season
@@ -99,8 +99,8 @@ numberIn w = length (heldBy (poolOf w))
 -- of a pool of geometry γ and P pages. It begins, and begins again, where make or clear is accepted, whatever the words
 -- were, or a copy of a sound pool is taken in, which brings its geometry, and whose entries count as accepted
 pub data Season (γ : Geometry) (P : ℕ) : ℕ → ℕ → List ℕ → Type 0 where
-  afterMake : {w v : List ℕ} (kind : ℕ) → γ ≡ today → length w ≡ firstWord γ P → Makes (makeTests kind w) γ kind w v (answered tt) → Season γ P 0 0 v
-  afterClear : {w v : List ℕ} → geometryOf w ≡ γ → length w ≡ firstWord γ P → Makes (clearTests w) γ (kindWord w) w v (answered tt) → Season γ P 0 0 v
+  afterMake : {w v : List ℕ} (kind : ℕ) → γ ≡ today → length w ≡ firstWord γ P → Makes kind w v (answered tt) → Season γ P 0 0 v
+  afterClear : {w v : List ℕ} → geometryOf w ≡ γ → length w ≡ firstWord γ P → Clears w v (answered tt) → Season γ P 0 0 v
   afterCopy : {w v : List ℕ} (source : List ℕ) → geometryOf source ≡ γ → length w ≡ firstWord γ P → Sound source → Copies source w v (answered tt) → Season γ P (numberIn source) 0 v
   afterUse : {w v : List ℕ} {accepted removed a r : ℕ} → Season γ P accepted removed w → Use w v a r → Season γ P (accepted + a) (removed + r) v
 

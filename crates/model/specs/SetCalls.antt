@@ -1,4 +1,5 @@
--- Document 01, "The calls", set: insert, get, contains, remove. A set is a map whose values are 0. (Its list: ListCalls.)
+-- Document 01, "The calls", set: insert, get, contains, remove. A set is a map whose values are 0. (Its list:
+-- ListCalls.)
 -- Assumes nothing: these are definitions.
 use mathlib.Core.Bool.{Bool, not, cond}
 use mathlib.Core.Option.{none, some}
@@ -6,12 +7,11 @@ use mathlib.Core.List.{[], _∷_}
 use Prim.Native.Nat.{ℕ}
 use Rattle.model.specs.Tree.{entry}
 use Rattle.model.specs.Entries.{has}
-use Rattle.model.specs.Gap.{Found}
+use Rattle.model.specs.Search.{Found, Seen}
 use Rattle.model.specs.Pool.{heldBy}
 use Rattle.model.specs.Refusal.{_when_, setKind}
-use Rattle.model.specs.Call.{Call}
-use Rattle.model.specs.PoolCalls.{reads}
-use Rattle.model.specs.MapCalls.{readTests, changeTests, file, noRoom, strike, pagesRead, Seen}
+use Rattle.model.specs.Call.{Call, reads}
+use Rattle.model.specs.MapCalls.{readTests, changeTests, file, noRoom, strike, pagesRead}
 
 -- whether the key is new
 abbrev pub setInsert : ℕ → Call Bool

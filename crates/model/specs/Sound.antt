@@ -7,7 +7,7 @@ use mathlib.Core.Bool.{true}
 use mathlib.Core.List.{List}
 use Prim.Native.Nat.{ℕ, _≤_, pred}
 use lib.ListN.{length}
-use Rattle.model.specs.Lists.{All}
+use Rattle.model.specs.Basics.{All}
 use Rattle.model.specs.Head.{leastOf, pageCount, countWord, rootWord, levelsWord, openWord, afterWord, keyWord, kindWord, headed}
 use Rattle.model.specs.PageMap.{mapOf, bitAt}
 use Rattle.model.specs.Tree.{held, meets, Rising, Formed}

@@ -1,5 +1,6 @@
--- The source's own words: the view of a map (the value of each key, if it has one) and of a set (whether each key is there), and what it says of sequences.
--- Its clauses are proved of the calls in these words (proofs/SourceMap, SourceSet, SourceList, SourceCursor), and docs/CONTRACTS.md lists them.
+-- The source's own words: the view of a map (the value of each key, if it has one) and of a set (whether each key is
+-- there), and what it says of sequences. Its clauses are proved of the calls in these words (proofs/SourceMap,
+-- SourceSet, SourceList, SourceCursor), and docs/CONTRACTS.md lists them.
 -- Assumes nothing: these are definitions.
 use mathlib.Core.Path.{_≡_}
 use mathlib.Core.Bool.{Bool, true, false, cond}
@@ -21,7 +22,8 @@ view w k = lookup k (heldBy (poolOf w))
 abbrev pub member : List ℕ → ℕ → Bool
 member w k = has k (heldBy (poolOf w))
 
--- a view that differs at key k, where it has x: with `some v` the source's `insert` into a map, with `none` its `remove`; with `true` and `false` those of a set
+-- a view that differs at key k, where it has x: with `some v` the source's `insert` into a map, with `none` its
+-- `remove`; with `true` and `false` those of a set
 abbrev pub altered : {A : Type 0} → (ℕ → A) → ℕ → A → ℕ → A
 altered m k x j = cond (eqb k j) x (m j)
 
@@ -37,7 +39,8 @@ pub record Mutated (before after : ℕ → Option ℕ) (k old new : ℕ) : Type 
 abbrev pub Increasing : List ℕ → Type 0
 Increasing xs = (i j : ℕ) → i < j → j < length xs → getD xs i 0 < getD xs j 0
 
--- the keys, in increasing order: taken as a set the list is the keys, and no key comes twice, so the number of keys is its length
+-- the keys, in increasing order: taken as a set the list is the keys, and no key comes twice, so the number of keys is
+-- its length
 pub record Enumerates (m : ℕ → Bool) (ks : List ℕ) : Type 0 where
   pub increasing : Increasing ks
   pub each : (i : ℕ) → i < length ks → m (getD ks i 0) ≡ true

@@ -1,11 +1,12 @@
--- The tree of pages, by its number of levels: a page with its own entries and its children. A leaf is a tree of one level, whose children are
--- trees of no levels, so leaves and upper pages are one case, and the empty pool has the tree of no levels.
+-- The tree of pages, by its number of levels: a page with its own entries and its children. A leaf is a tree of one
+-- level, whose children are trees of no levels, so leaves and upper pages are one case, and the empty pool has the tree
+-- of no levels.
 -- Assumes nothing: these are definitions.
 use mathlib.Core.Path.{_≡_}
 use mathlib.Core.List.{List, [], _∷_, _++_}
 use Prim.Native.Nat.{ℕ, zero, suc, _+_, _≤_, _<_}
 use lib.ListN.{length}
-use Rattle.model.specs.Lists.{sum, All, same}
+use Rattle.model.specs.Basics.{sum, All, same}
 use Rattle.model.specs.Layout.{mostEntries}
 
 pub record Entry : Type 0 where
@@ -81,22 +82,11 @@ pub record Whole : Type 0 where
   pub levels : ℕ
   pub tree : Tree levels
 
-abbrev pub empty : Whole
-empty = record { levels = 0; tree = tt }
-
 unfoldable pub held : Whole → List Entry
 held x = entries (x .levels) (x .tree)
 
 unfoldable pub meets : ℕ → Whole → ℕ
 meets p x = times p (x .levels) (x .tree)
-
--- the number of its pages
-unfoldable pub pagesBelow : (h : ℕ) → Tree h → ℕ
-pagesBelow zero t = 0
-pagesBelow (suc h) t = suc (sum (pagesBelow h) (t .children))
-
-unfoldable pub pagesOf : Whole → ℕ
-pagesOf x = pagesBelow (x .levels) (x .tree)
 
 -- the root holds 1 to 2m + 1 entries, every other page m to 2m + 1
 unfoldable pub Formed : ℕ → Whole → Type 0

@@ -4,14 +4,11 @@
 use mathlib.Core.Path.{_≡_}
 use mathlib.Core.List.{List}
 use Prim.Native.Nat.{ℕ}
-use Rattle.model.specs.declared.Geometry.{Geometry}
-use Rattle.model.specs.Layout.{Words}
 use Rattle.model.specs.Bound.{boundOf}
 use Rattle.model.specs.Sound.{Sound}
-use Rattle.model.specs.Alike.{Alike}
-use Rattle.model.specs.Refusal.{Test}
+use Rattle.model.specs.Alike.{Alike, Words}
 use Rattle.model.specs.Call.{Call, Outcome, Meets}
-use Rattle.model.specs.PoolCalls.{Makes, Copies}
+use Rattle.model.specs.PoolCalls.{Copies}
 use Rattle.model.specs.ListCalls.{Column, listTests, Lists}
 use Rattle.model.specs.Playback.{Plays}
 use Rattle.model.specs.Agree.{LentSame, LeftSame}
@@ -33,12 +30,12 @@ PlaysUnread =
     → (r ≡ s) × Alike v u × LeftSame cs ds
 
 -- make and clear, copy: of its source
-abbrev pub MakesUnread : (List ℕ → List Test) → (List ℕ → Geometry) → (List ℕ → ℕ) → Type 0
-MakesUnread tests geometry kind =
-    (w x v u : List ℕ) (r s : Outcome (Unit {0})) → Sound w → Alike w x → Words v → Words u → Makes (tests w) (geometry w) (kind w) w v r → Makes (tests x) (geometry x) (kind x) x u s
+abbrev pub MakesUnread : (List ℕ → List ℕ → Outcome (Unit {0}) → Type 0) → Type 0
+MakesUnread makes =
+    (w x v u : List ℕ) (r s : Outcome (Unit {0})) → Sound w → Alike w x → Words v → Words u → makes w v r → makes x u s
     → (r ≡ s) × Alike v u
 
 abbrev pub CopiesUnread : Type 0
 CopiesUnread =
-    (w x destination v u : List ℕ) (r s : Outcome (Unit {0})) → Sound w → Alike w x → Words v → Words u → Copies w destination v r → Copies x destination u s
-    → (r ≡ s) × Alike v u
+    (w x destination v u : List ℕ) (r s : Outcome (Unit {0})) → Sound w → Alike w x → Words v → Words u
+    → Copies w destination v r → Copies x destination u s → (r ≡ s) × Alike v u

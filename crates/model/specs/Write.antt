@@ -1,4 +1,5 @@
--- An entry overwritten in its place: what insert of a key present, replace, write next and write prev do to the tree. No page is needed or freed.
+-- An entry overwritten in its place: what insert of a key present, replace, write next and write prev do to the tree.
+-- No page is needed or freed.
 -- Assumes nothing: these are definitions.
 use mathlib.Core.Bool.{cond}
 use Prim.Native.Nat.{ℕ, zero, suc}

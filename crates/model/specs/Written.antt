@@ -6,7 +6,7 @@ use mathlib.Core.Path.{_≡_}
 use mathlib.Core.List.{List, [], _∷_}
 use Prim.Native.Nat.{ℕ, zero, suc, _≤_, _<_}
 use lib.ListN.{length, getD}
-use Rattle.model.specs.Lists.{tab}
+use Rattle.model.specs.Basics.{tab}
 use Rattle.model.specs.Layout.{headWords, firstWord, word}
 use Rattle.model.specs.Head.{geometryOf, leastOf}
 use Rattle.model.specs.PageMap.{mapOf, bitAt}

@@ -1,29 +1,25 @@
--- Words put at the front of `out`; and an exported function's promise, from that of the call below: where `out` is short, and where the call has answered or refused.
--- A number other than 0 means that every lent word is as it was.
+-- Words put at the front of `out`; and an exported function's promise, from that of the call below: where `out` is
+-- short, and where the call has answered or refused.
 -- Assumes nothing.
 use mathlib.Core.Path.{_≡_, refl}
-use mathlib.Core.Bool.{Bool, true, false}
-use mathlib.Core.Logic.{_≢_}
 use mathlib.Core.List.{List, [], _∷_}
 use Prim.Native.Nat.{ℕ, _≤_, _<_}
 use native.Mathlib.Omega.{arith}
-use lib.Dec.{ltb}
 use lib.ListN.{length, set}
-use borrow.Author.Tests.{ltb-true, ltb-false}
-use Rattle.model.specs.ListCalls.{written}
-use Rattle.model.specs.Call.{Outcome, refused, answered}
+use Rattle.model.specs.ListCalls.{fronted}
+use Rattle.model.specs.Call.{Outcome}
 use Rattle.moorpontoon.specs.Exported.{outWords, tooShort, Gives, Exported}
 
-pub one-put : (w : List ℕ) (a : ℕ) → outWords ≤ length w → set w 0 a ≡ written (a ∷ []) w
+pub one-put : (w : List ℕ) (a : ℕ) → outWords ≤ length w → set w 0 a ≡ fronted (a ∷ []) w
 one-put [] a h = absurd (omega arith)
 one-put (x ∷ w) a h = refl
 
-pub two-put : (w : List ℕ) (a b : ℕ) → outWords ≤ length w → set (set w 0 a) 1 b ≡ written (a ∷ b ∷ []) w
+pub two-put : (w : List ℕ) (a b : ℕ) → outWords ≤ length w → set (set w 0 a) 1 b ≡ fronted (a ∷ b ∷ []) w
 two-put [] a b h = absurd (omega arith)
 two-put (x ∷ []) a b h = absurd (omega arith)
 two-put (x ∷ y ∷ w) a b h = refl
 
-pub three-put : (w : List ℕ) (a b c : ℕ) → outWords ≤ length w → set (set (set w 0 a) 1 b) 2 c ≡ written (a ∷ b ∷ c ∷ []) w
+pub three-put : (w : List ℕ) (a b c : ℕ) → outWords ≤ length w → set (set (set w 0 a) 1 b) 2 c ≡ fronted (a ∷ b ∷ c ∷ []) w
 three-put [] a b c h = absurd (omega arith)
 three-put (x ∷ []) a b c h = absurd (omega arith)
 three-put (x ∷ y ∷ []) a b c h = absurd (omega arith)
@@ -41,15 +37,3 @@ module _ {A : Type 0} {words : A → List ℕ} {promise : Outcome A → Type 0} 
     short = λ h. absurd (omega arith);
     told = λ h. (r, met, given);
   }
-
-  -- a refusal, or a short `out`, leaves every lent word as it was
-  pub refused-kept : {n : ℕ} → ((m : ℕ) → promise (refused m) → kept) → Exported words promise kept before after n → n ≢ 0 → (after ≡ before) × kept
-  refused-kept {n} still e some = side (ltb (length before) outWords) refl
-    where
-      called : (r : Outcome A) × promise r × Gives words r before after n → (after ≡ before) × kept
-      called (refused m, met, given) = (given .1, still m met)
-      called (answered a, met, given) = absurd (some (given .0))
-
-      side : (b : Bool) → ltb (length before) outWords ≡ b → (after ≡ before) × kept
-      side true h = let few = e .short (ltb-true _ _ h) in (few .1, few .2)
-      side false h = called (e .told (ltb-false _ _ h))

@@ -1,12 +1,12 @@
--- The words of `out` for each answer, as the table of include/moorpontoon.h has them: always all of them; a key or a value that there is not is 0.
+-- The words of `out` for each answer, as the table of include/moorpontoon.h has them: always all of them; a key or a
+-- value that there is not is 0.
 -- Assumes nothing: these are definitions.
 use mathlib.Core.Bool.{Bool, true, false}
 use mathlib.Core.Option.{Option, none, some}
 use mathlib.Core.List.{List, [], _∷_, _++_}
 use Prim.Native.Nat.{ℕ}
 use Rattle.model.specs.Tree.{Entry}
-use Rattle.model.specs.Gap.{Found}
-use Rattle.model.specs.MapCalls.{Seen}
+use Rattle.model.specs.Search.{Found, Seen}
 
 abbrev pub truth : Bool → ℕ
 truth true = 1

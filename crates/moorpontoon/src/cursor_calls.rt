@@ -1,9 +1,9 @@
-// Exported, for the cursor on a map: opening, next, prev, the peeks, the writes, insert after, remove next, close. Names, arguments and words of `out` are those of include/moorpontoon.h.
-ghost use mathlib.Core.Path.{_≡_};
-ghost use Rattle.model.specs.Call.{Meets};
-ghost use Rattle.model.specs.CursorCalls.{cursorOpenLower, cursorOpenUpper, cursorNext, cursorPrev, cursorPeekNext, cursorPeekPrev, cursorWriteNext, cursorWritePrev, cursorInsertAfter, cursorRemoveNext, cursorClose};
+// Exported, for the cursor on a map: opening, next, prev, the peeks, the writes, insert after, remove next, close.
+// Names, arguments and words of `out` are those of include/moorpontoon.h.
+ghost use Rattle.model.specs.Call.{Meets, ReadsPages};
+ghost use Rattle.model.specs.CursorCalls.{cursorOpenLower, cursorOpenUpper, cursorNext, cursorPrev, cursorPeekNext, cursorPeekPrev, cursorWriteNext, cursorWritePrev, cursorInsertAfter, cursorRemoveNext, Closes};
 ghost use Rattle.moorpontoon.specs.Words.{nothing, amount, perhaps, stepped};
-ghost use Rattle.moorpontoon.specs.Exported.{Exported};
+ghost use Rattle.moorpontoon.specs.Exported.{Called};
 use crate::give;
 use crate::give::OUT;
 use crate::give::SHORT;
@@ -18,7 +18,7 @@ pub extern "C" fn mp_cursor_open_lower(
     key: u64,
     out: &mut [u64],
 ) -> u64
-    ensures { λ n. ⌜ Exported amount (Meets (cursorOpenLower kind key) (now (pool .entry)) (now (pool .exit))) (now (pool .exit) ≡ now (pool .entry)) (now (out .entry)) (now (out .exit)) n ⌝ }
+    ensures { λ n. ⌜ Called amount (ReadsPages (cursorOpenLower kind key) (λ n. n)) (now (pool .entry)) (now (pool .exit)) (now (out .entry)) (now (out .exit)) n ⌝ }
 {
     if out.len() < OUT {
         return SHORT;
@@ -34,7 +34,7 @@ pub extern "C" fn mp_cursor_open_upper(
     key: u64,
     out: &mut [u64],
 ) -> u64
-    ensures { λ n. ⌜ Exported amount (Meets (cursorOpenUpper kind key) (now (pool .entry)) (now (pool .exit))) (now (pool .exit) ≡ now (pool .entry)) (now (out .entry)) (now (out .exit)) n ⌝ }
+    ensures { λ n. ⌜ Called amount (ReadsPages (cursorOpenUpper kind key) (λ n. n)) (now (pool .entry)) (now (pool .exit)) (now (out .entry)) (now (out .exit)) n ⌝ }
 {
     if out.len() < OUT {
         return SHORT;
@@ -45,7 +45,7 @@ pub extern "C" fn mp_cursor_open_upper(
 // The entry after the gap, and the gap goes over it.
 #[no_mangle]
 pub extern "C" fn mp_cursor_next(pool: &mut [u64], out: &mut [u64]) -> u64
-    ensures { λ n. ⌜ Exported stepped (Meets cursorNext (now (pool .entry)) (now (pool .exit))) (now (pool .exit) ≡ now (pool .entry)) (now (out .entry)) (now (out .exit)) n ⌝ }
+    ensures { λ n. ⌜ Called stepped (Meets cursorNext) (now (pool .entry)) (now (pool .exit)) (now (out .entry)) (now (out .exit)) n ⌝ }
 {
     if out.len() < OUT {
         return SHORT;
@@ -56,7 +56,7 @@ pub extern "C" fn mp_cursor_next(pool: &mut [u64], out: &mut [u64]) -> u64
 // The entry before the gap, and the gap goes over it.
 #[no_mangle]
 pub extern "C" fn mp_cursor_prev(pool: &mut [u64], out: &mut [u64]) -> u64
-    ensures { λ n. ⌜ Exported stepped (Meets cursorPrev (now (pool .entry)) (now (pool .exit))) (now (pool .exit) ≡ now (pool .entry)) (now (out .entry)) (now (out .exit)) n ⌝ }
+    ensures { λ n. ⌜ Called stepped (Meets cursorPrev) (now (pool .entry)) (now (pool .exit)) (now (out .entry)) (now (out .exit)) n ⌝ }
 {
     if out.len() < OUT {
         return SHORT;
@@ -67,7 +67,7 @@ pub extern "C" fn mp_cursor_prev(pool: &mut [u64], out: &mut [u64]) -> u64
 // The entry after the gap.
 #[no_mangle]
 pub extern "C" fn mp_cursor_peek_next(pool: &[u64], out: &mut [u64]) -> u64
-    ensures { λ n. ⌜ Exported stepped (Meets cursorPeekNext (now (pool .entry)) (now (pool .entry))) Unit (now (out .entry)) (now (out .exit)) n ⌝ }
+    ensures { λ n. ⌜ Called stepped (Meets cursorPeekNext) (now (pool .entry)) (now (pool .entry)) (now (out .entry)) (now (out .exit)) n ⌝ }
 {
     if out.len() < OUT {
         return SHORT;
@@ -78,7 +78,7 @@ pub extern "C" fn mp_cursor_peek_next(pool: &[u64], out: &mut [u64]) -> u64
 // The entry before the gap.
 #[no_mangle]
 pub extern "C" fn mp_cursor_peek_prev(pool: &[u64], out: &mut [u64]) -> u64
-    ensures { λ n. ⌜ Exported stepped (Meets cursorPeekPrev (now (pool .entry)) (now (pool .entry))) Unit (now (out .entry)) (now (out .exit)) n ⌝ }
+    ensures { λ n. ⌜ Called stepped (Meets cursorPeekPrev) (now (pool .entry)) (now (pool .entry)) (now (out .entry)) (now (out .exit)) n ⌝ }
 {
     if out.len() < OUT {
         return SHORT;
@@ -89,7 +89,7 @@ pub extern "C" fn mp_cursor_peek_prev(pool: &[u64], out: &mut [u64]) -> u64
 // Another value for the entry after the gap.
 #[no_mangle]
 pub extern "C" fn mp_cursor_write_next(pool: &mut [u64], value: u64, out: &mut [u64]) -> u64
-    ensures { λ n. ⌜ Exported perhaps (Meets (cursorWriteNext value) (now (pool .entry)) (now (pool .exit))) (now (pool .exit) ≡ now (pool .entry)) (now (out .entry)) (now (out .exit)) n ⌝ }
+    ensures { λ n. ⌜ Called perhaps (Meets (cursorWriteNext value)) (now (pool .entry)) (now (pool .exit)) (now (out .entry)) (now (out .exit)) n ⌝ }
 {
     if out.len() < OUT {
         return SHORT;
@@ -100,7 +100,7 @@ pub extern "C" fn mp_cursor_write_next(pool: &mut [u64], value: u64, out: &mut [
 // Another value for the entry before the gap.
 #[no_mangle]
 pub extern "C" fn mp_cursor_write_prev(pool: &mut [u64], value: u64, out: &mut [u64]) -> u64
-    ensures { λ n. ⌜ Exported perhaps (Meets (cursorWritePrev value) (now (pool .entry)) (now (pool .exit))) (now (pool .exit) ≡ now (pool .entry)) (now (out .entry)) (now (out .exit)) n ⌝ }
+    ensures { λ n. ⌜ Called perhaps (Meets (cursorWritePrev value)) (now (pool .entry)) (now (pool .exit)) (now (out .entry)) (now (out .exit)) n ⌝ }
 {
     if out.len() < OUT {
         return SHORT;
@@ -116,7 +116,7 @@ pub extern "C" fn mp_cursor_insert_after(
     value: u64,
     out: &mut [u64],
 ) -> u64
-    ensures { λ n. ⌜ Exported nothing (Meets (cursorInsertAfter key value) (now (pool .entry)) (now (pool .exit))) (now (pool .exit) ≡ now (pool .entry)) (now (out .entry)) (now (out .exit)) n ⌝ }
+    ensures { λ n. ⌜ Called nothing (Meets (cursorInsertAfter key value)) (now (pool .entry)) (now (pool .exit)) (now (out .entry)) (now (out .exit)) n ⌝ }
 {
     if out.len() < OUT {
         return SHORT;
@@ -127,7 +127,7 @@ pub extern "C" fn mp_cursor_insert_after(
 // The entry after the gap goes.
 #[no_mangle]
 pub extern "C" fn mp_cursor_remove_next(pool: &mut [u64], out: &mut [u64]) -> u64
-    ensures { λ n. ⌜ Exported stepped (Meets cursorRemoveNext (now (pool .entry)) (now (pool .exit))) (now (pool .exit) ≡ now (pool .entry)) (now (out .entry)) (now (out .exit)) n ⌝ }
+    ensures { λ n. ⌜ Called stepped (Meets cursorRemoveNext) (now (pool .entry)) (now (pool .exit)) (now (out .entry)) (now (out .exit)) n ⌝ }
 {
     if out.len() < OUT {
         return SHORT;
@@ -138,7 +138,7 @@ pub extern "C" fn mp_cursor_remove_next(pool: &mut [u64], out: &mut [u64]) -> u6
 // The cursor is put away; the map takes changes again.
 #[no_mangle]
 pub extern "C" fn mp_cursor_close(pool: &mut [u64], out: &mut [u64]) -> u64
-    ensures { λ n. ⌜ Exported nothing (Meets cursorClose (now (pool .entry)) (now (pool .exit))) (now (pool .exit) ≡ now (pool .entry)) (now (out .entry)) (now (out .exit)) n ⌝ }
+    ensures { λ n. ⌜ Called nothing Closes (now (pool .entry)) (now (pool .exit)) (now (out .entry)) (now (out .exit)) n ⌝ }
 {
     if out.len() < OUT {
         return SHORT;

@@ -4,7 +4,7 @@ ghost use mathlib.Core.Path.{_≡_};
 ghost use mathlib.Core.List.{[], _∷_};
 ghost use lib.ListN.{length};
 ghost use Rattle.model.specs.Call.{answered};
-ghost use Rattle.model.specs.ListCalls.{written};
+ghost use Rattle.model.specs.ListCalls.{fronted};
 ghost use Rattle.map.specs.Answers.{answerOf, countedOf, emptyOf, checkedOf, insertedOf, gotOf, containedOf, replacedOf, removedOf, listedOf, setInsertedOf, setGotOf, setRemovedOf};
 ghost use Rattle.cursor.specs.Answers.{openedOf, stepOf, wroteOf};
 ghost use Rattle.moorpontoon.specs.Words.{nothing, amount, whether, perhaps, found, seen, stepped};
@@ -35,7 +35,7 @@ pub const SHORT: u64 = 255;
 // One word to the front.
 fn put_one(out: &mut [u64], a: u64) -> u64
     requires { ⌜ outWords ≤ length (now out) ⌝ }
-    ensures { λ n. ⌜ (n ≡ 0) × (now (out .exit) ≡ written (a ∷ []) (now (out .entry))) ⌝ }
+    ensures { λ n. ⌜ (n ≡ 0) × (now (out .exit) ≡ fronted (a ∷ []) (now (out .entry))) ⌝ }
 {
     out[0] = a;
     0
@@ -44,7 +44,7 @@ fn put_one(out: &mut [u64], a: u64) -> u64
 // Two words to the front.
 fn put_two(out: &mut [u64], a: u64, b: u64) -> u64
     requires { ⌜ outWords ≤ length (now out) ⌝ }
-    ensures { λ n. ⌜ (n ≡ 0) × (now (out .exit) ≡ written (a ∷ b ∷ []) (now (out .entry))) ⌝ }
+    ensures { λ n. ⌜ (n ≡ 0) × (now (out .exit) ≡ fronted (a ∷ b ∷ []) (now (out .entry))) ⌝ }
 {
     out[0] = a;
     out[1] = b;
@@ -54,7 +54,7 @@ fn put_two(out: &mut [u64], a: u64, b: u64) -> u64
 // Three words to the front.
 fn put_three(out: &mut [u64], a: u64, b: u64, c: u64) -> u64
     requires { ⌜ outWords ≤ length (now out) ⌝ }
-    ensures { λ n. ⌜ (n ≡ 0) × (now (out .exit) ≡ written (a ∷ b ∷ c ∷ []) (now (out .entry))) ⌝ }
+    ensures { λ n. ⌜ (n ≡ 0) × (now (out .exit) ≡ fronted (a ∷ b ∷ c ∷ []) (now (out .entry))) ⌝ }
 {
     out[0] = a;
     out[1] = b;

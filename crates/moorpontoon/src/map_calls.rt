@@ -1,13 +1,12 @@
-// Exported, for a map: insert, get, contains, replace, remove and its lists. Names, arguments and words of `out` are those of include/moorpontoon.h.
-ghost use mathlib.Core.Path.{_≡_};
+// Exported, for a map: insert, get, contains, replace, remove and its lists. Names, arguments and words of `out` are
+// those of include/moorpontoon.h.
 ghost use mathlib.Core.List.{[], _∷_};
-ghost use Rattle.model.specs.Bound.{boundOf};
 ghost use Rattle.model.specs.Refusal.{mapKind};
-ghost use Rattle.model.specs.Call.{Meets};
+ghost use Rattle.model.specs.Call.{Meets, ReadsPages};
 ghost use Rattle.model.specs.MapCalls.{mapInsert, mapGet, mapContains, mapReplace, mapRemove};
-ghost use Rattle.model.specs.ListCalls.{Lists, listTests, keyColumn, valueColumn};
-ghost use Rattle.moorpontoon.specs.Words.{amount, perhaps, found, seen};
-ghost use Rattle.moorpontoon.specs.Exported.{Exported};
+ghost use Rattle.model.specs.ListCalls.{keyColumn, valueColumn};
+ghost use Rattle.moorpontoon.specs.Words.{perhaps, found, seen};
+ghost use Rattle.moorpontoon.specs.Exported.{Called, ListsCalled};
 use crate::give;
 use crate::give::OUT;
 use crate::give::SHORT;
@@ -16,7 +15,7 @@ use map::list;
 // The key's entry, new or over the one that it had.
 #[no_mangle]
 pub extern "C" fn mp_map_insert(pool: &mut [u64], key: u64, value: u64, out: &mut [u64]) -> u64
-    ensures { λ n. ⌜ Exported perhaps (Meets (mapInsert key value) (now (pool .entry)) (now (pool .exit))) (now (pool .exit) ≡ now (pool .entry)) (now (out .entry)) (now (out .exit)) n ⌝ }
+    ensures { λ n. ⌜ Called perhaps (Meets (mapInsert key value)) (now (pool .entry)) (now (pool .exit)) (now (out .entry)) (now (out .exit)) n ⌝ }
 {
     if out.len() < OUT {
         return SHORT;
@@ -27,7 +26,7 @@ pub extern "C" fn mp_map_insert(pool: &mut [u64], key: u64, value: u64, out: &mu
 // The value of a key.
 #[no_mangle]
 pub extern "C" fn mp_map_get(pool: &[u64], key: u64, out: &mut [u64]) -> u64
-    ensures { λ n. ⌜ Exported found (Meets (mapGet key) (now (pool .entry)) (now (pool .entry))) Unit (now (out .entry)) (now (out .exit)) n ⌝ }
+    ensures { λ n. ⌜ Called found (ReadsPages (mapGet key) (λ f. f .read)) (now (pool .entry)) (now (pool .entry)) (now (out .entry)) (now (out .exit)) n ⌝ }
 {
     if out.len() < OUT {
         return SHORT;
@@ -38,7 +37,7 @@ pub extern "C" fn mp_map_get(pool: &[u64], key: u64, out: &mut [u64]) -> u64
 // Whether the key is there.
 #[no_mangle]
 pub extern "C" fn mp_map_contains(pool: &[u64], key: u64, out: &mut [u64]) -> u64
-    ensures { λ n. ⌜ Exported seen (Meets (mapContains key) (now (pool .entry)) (now (pool .entry))) Unit (now (out .entry)) (now (out .exit)) n ⌝ }
+    ensures { λ n. ⌜ Called seen (ReadsPages (mapContains key) (λ f. f .read)) (now (pool .entry)) (now (pool .entry)) (now (out .entry)) (now (out .exit)) n ⌝ }
 {
     if out.len() < OUT {
         return SHORT;
@@ -49,7 +48,7 @@ pub extern "C" fn mp_map_contains(pool: &[u64], key: u64, out: &mut [u64]) -> u6
 // Another value for a key that is there.
 #[no_mangle]
 pub extern "C" fn mp_map_replace(pool: &mut [u64], key: u64, value: u64, out: &mut [u64]) -> u64
-    ensures { λ n. ⌜ Exported perhaps (Meets (mapReplace key value) (now (pool .entry)) (now (pool .exit))) (now (pool .exit) ≡ now (pool .entry)) (now (out .entry)) (now (out .exit)) n ⌝ }
+    ensures { λ n. ⌜ Called perhaps (Meets (mapReplace key value)) (now (pool .entry)) (now (pool .exit)) (now (out .entry)) (now (out .exit)) n ⌝ }
 {
     if out.len() < OUT {
         return SHORT;
@@ -60,7 +59,7 @@ pub extern "C" fn mp_map_replace(pool: &mut [u64], key: u64, value: u64, out: &m
 // The key's entry goes.
 #[no_mangle]
 pub extern "C" fn mp_map_remove(pool: &mut [u64], key: u64, out: &mut [u64]) -> u64
-    ensures { λ n. ⌜ Exported perhaps (Meets (mapRemove key) (now (pool .entry)) (now (pool .exit))) (now (pool .exit) ≡ now (pool .entry)) (now (out .entry)) (now (out .exit)) n ⌝ }
+    ensures { λ n. ⌜ Called perhaps (Meets (mapRemove key)) (now (pool .entry)) (now (pool .exit)) (now (out .entry)) (now (out .exit)) n ⌝ }
 {
     if out.len() < OUT {
         return SHORT;
@@ -80,7 +79,7 @@ pub extern "C" fn mp_map_list_entries(
     values: &mut [u64],
     out: &mut [u64],
 ) -> u64
-    ensures { λ n. ⌜ Exported amount (Lists (listTests mapKind lower upper (now (pool .entry))) (boundOf lower from) (boundOf upper to) (now (pool .entry)) (keyColumn (now (keys .entry)) (now (keys .exit)) ∷ valueColumn (now (values .entry)) (now (values .exit)) ∷ [])) ((now (keys .exit) ≡ now (keys .entry)) × (now (values .exit) ≡ now (values .entry))) (now (out .entry)) (now (out .exit)) n ⌝ }
+    ensures { λ n. ⌜ ListsCalled mapKind lower from upper to (now (pool .entry)) (keyColumn (now (keys .entry)) (now (keys .exit)) ∷ valueColumn (now (values .entry)) (now (values .exit)) ∷ []) (now (out .entry)) (now (out .exit)) n ⌝ }
 {
     if out.len() < OUT {
         return SHORT;
@@ -102,7 +101,7 @@ pub extern "C" fn mp_map_list_keys(
     keys: &mut [u64],
     out: &mut [u64],
 ) -> u64
-    ensures { λ n. ⌜ Exported amount (Lists (listTests mapKind lower upper (now (pool .entry))) (boundOf lower from) (boundOf upper to) (now (pool .entry)) (keyColumn (now (keys .entry)) (now (keys .exit)) ∷ [])) (now (keys .exit) ≡ now (keys .entry)) (now (out .entry)) (now (out .exit)) n ⌝ }
+    ensures { λ n. ⌜ ListsCalled mapKind lower from upper to (now (pool .entry)) (keyColumn (now (keys .entry)) (now (keys .exit)) ∷ []) (now (out .entry)) (now (out .exit)) n ⌝ }
 {
     if out.len() < OUT {
         return SHORT;
@@ -121,7 +120,7 @@ pub extern "C" fn mp_map_list_values(
     values: &mut [u64],
     out: &mut [u64],
 ) -> u64
-    ensures { λ n. ⌜ Exported amount (Lists (listTests mapKind lower upper (now (pool .entry))) (boundOf lower from) (boundOf upper to) (now (pool .entry)) (valueColumn (now (values .entry)) (now (values .exit)) ∷ [])) (now (values .exit) ≡ now (values .entry)) (now (out .entry)) (now (out .exit)) n ⌝ }
+    ensures { λ n. ⌜ ListsCalled mapKind lower from upper to (now (pool .entry)) (valueColumn (now (values .entry)) (now (values .exit)) ∷ []) (now (out .entry)) (now (out .exit)) n ⌝ }
 {
     if out.len() < OUT {
         return SHORT;

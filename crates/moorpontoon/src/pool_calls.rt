@@ -1,12 +1,8 @@
 // Exported, for a pool of either kind: make, clear, count, is-empty, copy, check. Names, arguments and words of `out`
 // are those of include/moorpontoon.h.
-ghost use mathlib.Core.Path.{_≡_};
-ghost use Rattle.model.specs.Layout.{today};
-ghost use Rattle.model.specs.Head.{geometryOf, kindWord};
-ghost use Rattle.model.specs.Call.{Meets};
-ghost use Rattle.model.specs.PoolCalls.{Makes, makeTests, clearTests, Copies, poolCount, poolIsEmpty};
+ghost use Rattle.model.specs.PoolCalls.{Makes, Clears, Counts, TellsEmpty, Copies};
 ghost use Rattle.moorpontoon.specs.Words.{nothing, amount, whether};
-ghost use Rattle.moorpontoon.specs.Exported.{Exported, ChecksOnly};
+ghost use Rattle.moorpontoon.specs.Exported.{Called, ChecksOnly};
 use crate::give;
 use crate::give::OUT;
 use crate::give::SHORT;
@@ -15,7 +11,7 @@ use map::pool;
 // A new pool of a kind, in any words of a length that is allowed.
 #[no_mangle]
 pub extern "C" fn mp_make(pool: &mut [u64], kind: u64, out: &mut [u64]) -> u64
-    ensures { λ n. ⌜ Exported nothing (Makes (makeTests kind (now (pool .entry))) today kind (now (pool .entry)) (now (pool .exit))) (now (pool .exit) ≡ now (pool .entry)) (now (out .entry)) (now (out .exit)) n ⌝ }
+    ensures { λ n. ⌜ Called nothing (Makes kind) (now (pool .entry)) (now (pool .exit)) (now (out .entry)) (now (out .exit)) n ⌝ }
 {
     if out.len() < OUT {
         return SHORT;
@@ -26,7 +22,7 @@ pub extern "C" fn mp_make(pool: &mut [u64], kind: u64, out: &mut [u64]) -> u64
 // The same pool with no entry.
 #[no_mangle]
 pub extern "C" fn mp_clear(pool: &mut [u64], out: &mut [u64]) -> u64
-    ensures { λ n. ⌜ Exported nothing (Makes (clearTests (now (pool .entry))) (geometryOf (now (pool .entry))) (kindWord (now (pool .entry))) (now (pool .entry)) (now (pool .exit))) (now (pool .exit) ≡ now (pool .entry)) (now (out .entry)) (now (out .exit)) n ⌝ }
+    ensures { λ n. ⌜ Called nothing Clears (now (pool .entry)) (now (pool .exit)) (now (out .entry)) (now (out .exit)) n ⌝ }
 {
     if out.len() < OUT {
         return SHORT;
@@ -37,7 +33,7 @@ pub extern "C" fn mp_clear(pool: &mut [u64], out: &mut [u64]) -> u64
 // The entries.
 #[no_mangle]
 pub extern "C" fn mp_count(pool: &[u64], out: &mut [u64]) -> u64
-    ensures { λ n. ⌜ Exported amount (Meets poolCount (now (pool .entry)) (now (pool .entry))) Unit (now (out .entry)) (now (out .exit)) n ⌝ }
+    ensures { λ n. ⌜ Called amount Counts (now (pool .entry)) (now (pool .entry)) (now (out .entry)) (now (out .exit)) n ⌝ }
 {
     if out.len() < OUT {
         return SHORT;
@@ -48,7 +44,7 @@ pub extern "C" fn mp_count(pool: &[u64], out: &mut [u64]) -> u64
 // Whether there is none.
 #[no_mangle]
 pub extern "C" fn mp_is_empty(pool: &[u64], out: &mut [u64]) -> u64
-    ensures { λ n. ⌜ Exported whether (Meets poolIsEmpty (now (pool .entry)) (now (pool .entry))) Unit (now (out .entry)) (now (out .exit)) n ⌝ }
+    ensures { λ n. ⌜ Called whether TellsEmpty (now (pool .entry)) (now (pool .entry)) (now (out .entry)) (now (out .exit)) n ⌝ }
 {
     if out.len() < OUT {
         return SHORT;
@@ -59,7 +55,7 @@ pub extern "C" fn mp_is_empty(pool: &[u64], out: &mut [u64]) -> u64
 // The pool into other words, with the cursor closed.
 #[no_mangle]
 pub extern "C" fn mp_copy(pool: &[u64], destination: &mut [u64], out: &mut [u64]) -> u64
-    ensures { λ n. ⌜ Exported nothing (Copies (now (pool .entry)) (now (destination .entry)) (now (destination .exit))) (now (destination .exit) ≡ now (destination .entry)) (now (out .entry)) (now (out .exit)) n ⌝ }
+    ensures { λ n. ⌜ Called nothing (Copies (now (pool .entry))) (now (destination .entry)) (now (destination .exit)) (now (out .entry)) (now (out .exit)) n ⌝ }
 {
     if out.len() < OUT {
         return SHORT;
@@ -70,7 +66,7 @@ pub extern "C" fn mp_copy(pool: &[u64], destination: &mut [u64], out: &mut [u64]
 // Whether the words are a sound pool.
 #[no_mangle]
 pub extern "C" fn mp_check(pool: &[u64], out: &mut [u64]) -> u64
-    ensures { λ n. ⌜ Exported whether (ChecksOnly (now (pool .entry))) Unit (now (out .entry)) (now (out .exit)) n ⌝ }
+    ensures { λ n. ⌜ Called whether ChecksOnly (now (pool .entry)) (now (pool .entry)) (now (out .entry)) (now (out .exit)) n ⌝ }
 {
     if out.len() < OUT {
         return SHORT;

@@ -1,13 +1,12 @@
-// Exported, for a set: insert, get, contains, remove and its list. Names, arguments and words of `out` are those of include/moorpontoon.h.
-ghost use mathlib.Core.Path.{_≡_};
+// Exported, for a set: insert, get, contains, remove and its list. Names, arguments and words of `out` are those of
+// include/moorpontoon.h.
 ghost use mathlib.Core.List.{[], _∷_};
-ghost use Rattle.model.specs.Bound.{boundOf};
 ghost use Rattle.model.specs.Refusal.{setKind};
-ghost use Rattle.model.specs.Call.{Meets};
+ghost use Rattle.model.specs.Call.{Meets, ReadsPages};
 ghost use Rattle.model.specs.SetCalls.{setInsert, setGet, setContains, setRemove};
-ghost use Rattle.model.specs.ListCalls.{Lists, listTests, keyColumn};
-ghost use Rattle.moorpontoon.specs.Words.{amount, whether, found, seen};
-ghost use Rattle.moorpontoon.specs.Exported.{Exported};
+ghost use Rattle.model.specs.ListCalls.{keyColumn};
+ghost use Rattle.moorpontoon.specs.Words.{whether, found, seen};
+ghost use Rattle.moorpontoon.specs.Exported.{Called, ListsCalled};
 use crate::give;
 use crate::give::OUT;
 use crate::give::SHORT;
@@ -16,7 +15,7 @@ use map::set;
 // The key, if it is new.
 #[no_mangle]
 pub extern "C" fn mp_set_insert(pool: &mut [u64], key: u64, out: &mut [u64]) -> u64
-    ensures { λ n. ⌜ Exported whether (Meets (setInsert key) (now (pool .entry)) (now (pool .exit))) (now (pool .exit) ≡ now (pool .entry)) (now (out .entry)) (now (out .exit)) n ⌝ }
+    ensures { λ n. ⌜ Called whether (Meets (setInsert key)) (now (pool .entry)) (now (pool .exit)) (now (out .entry)) (now (out .exit)) n ⌝ }
 {
     if out.len() < OUT {
         return SHORT;
@@ -27,7 +26,7 @@ pub extern "C" fn mp_set_insert(pool: &mut [u64], key: u64, out: &mut [u64]) -> 
 // The set's own key.
 #[no_mangle]
 pub extern "C" fn mp_set_get(pool: &[u64], key: u64, out: &mut [u64]) -> u64
-    ensures { λ n. ⌜ Exported found (Meets (setGet key) (now (pool .entry)) (now (pool .entry))) Unit (now (out .entry)) (now (out .exit)) n ⌝ }
+    ensures { λ n. ⌜ Called found (ReadsPages (setGet key) (λ f. f .read)) (now (pool .entry)) (now (pool .entry)) (now (out .entry)) (now (out .exit)) n ⌝ }
 {
     if out.len() < OUT {
         return SHORT;
@@ -38,7 +37,7 @@ pub extern "C" fn mp_set_get(pool: &[u64], key: u64, out: &mut [u64]) -> u64
 // Whether the key is there.
 #[no_mangle]
 pub extern "C" fn mp_set_contains(pool: &[u64], key: u64, out: &mut [u64]) -> u64
-    ensures { λ n. ⌜ Exported seen (Meets (setContains key) (now (pool .entry)) (now (pool .entry))) Unit (now (out .entry)) (now (out .exit)) n ⌝ }
+    ensures { λ n. ⌜ Called seen (ReadsPages (setContains key) (λ f. f .read)) (now (pool .entry)) (now (pool .entry)) (now (out .entry)) (now (out .exit)) n ⌝ }
 {
     if out.len() < OUT {
         return SHORT;
@@ -49,7 +48,7 @@ pub extern "C" fn mp_set_contains(pool: &[u64], key: u64, out: &mut [u64]) -> u6
 // The key goes.
 #[no_mangle]
 pub extern "C" fn mp_set_remove(pool: &mut [u64], key: u64, out: &mut [u64]) -> u64
-    ensures { λ n. ⌜ Exported whether (Meets (setRemove key) (now (pool .entry)) (now (pool .exit))) (now (pool .exit) ≡ now (pool .entry)) (now (out .entry)) (now (out .exit)) n ⌝ }
+    ensures { λ n. ⌜ Called whether (Meets (setRemove key)) (now (pool .entry)) (now (pool .exit)) (now (out .entry)) (now (out .exit)) n ⌝ }
 {
     if out.len() < OUT {
         return SHORT;
@@ -68,7 +67,7 @@ pub extern "C" fn mp_set_list(
     keys: &mut [u64],
     out: &mut [u64],
 ) -> u64
-    ensures { λ n. ⌜ Exported amount (Lists (listTests setKind lower upper (now (pool .entry))) (boundOf lower from) (boundOf upper to) (now (pool .entry)) (keyColumn (now (keys .entry)) (now (keys .exit)) ∷ [])) (now (keys .exit) ≡ now (keys .entry)) (now (out .entry)) (now (out .exit)) n ⌝ }
+    ensures { λ n. ⌜ ListsCalled setKind lower from upper to (now (pool .entry)) (keyColumn (now (keys .entry)) (now (keys .exit)) ∷ []) (now (out .entry)) (now (out .exit)) n ⌝ }
 {
     if out.len() < OUT {
         return SHORT;

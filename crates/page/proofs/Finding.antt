@@ -1,4 +1,5 @@
--- Where a key belongs in a page: the place in the run of key words is the gap in the page's entries. One law for each answer of `find`.
+-- Where a key belongs in a page: the place in the run of key words is the gap in the page's entries. One law for each
+-- answer of `find`.
 -- Assumes nothing.
 use mathlib.Core.Path.{_≡_, refl, sym, ap, _∙_}
 use mathlib.Core.Bool.{Bool, true, false, cond, _&&_}
@@ -10,17 +11,17 @@ use lib.Dec.{ltb, eqb}
 use lib.ListN.{getD, take, drop}
 use lib.Seq.{take-take}
 use borrow.Author.Tests.{leb-true, lt-ltb, le-ltb, le-leb, lt-leb}
-use Rattle.model.specs.Lists.{tab, every}
+use Rattle.model.specs.Basics.{tab, every}
 use Rattle.model.specs.Tree.{noEntry}
 use Rattle.model.specs.Page.{countOf, entryIn, entriesOf}
 use Rattle.model.specs.Entries.{gapOf, gapBefore}
-use Rattle.model.specs.Gap.{at}
+use Rattle.model.specs.Search.{at}
 use Rattle.page.specs.declared.Place.the-variants.{Here, Gap, Unsound}
 use Rattle.page.specs.declared.Slot.the-variants as slot
 use Rattle.page.specs.Runs.{part, leading, upTo}
 use Rattle.page.specs.Page.{Long, counted, gapIn, placeOf}
 use Rattle.model.proofs.Cases.{either, either-lt, never}
-use Rattle.model.proofs.Lists.{length-tab, getD-tab, every-true}
+use Rattle.model.proofs.Basics.{length-tab, getD-tab, every-true}
 use Rattle.model.proofs.Entries.{gap-le}
 use Rattle.model.proofs.Read.{length-own}
 use Rattle.page.proofs.Tables.{part-tab}

@@ -1,5 +1,5 @@
 -- Laws that belong to no one function.
-pub mod Lists
+pub mod Running
 pub mod Leading
 pub mod Parts
 pub mod Tables

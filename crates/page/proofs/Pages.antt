@@ -1,5 +1,6 @@
--- What the runs of one page make of its entries and children when they were changed one after the other, and what the tests of a page say.
--- A page is known by its count, its height and three runs: keys, values and, above the leaves, children.
+-- What the runs of one page make of its entries and children when they were changed one after the other, and what the
+-- tests of a page say. A page is known by its count, its height and three runs: keys, values and, above the leaves,
+-- children.
 -- Assumes nothing.
 use mathlib.Core.Path.{_≡_, refl, sym, ap, _∙_}
 use mathlib.Core.Bool.{Bool, true, false, _&&_}
@@ -11,17 +12,18 @@ use lib.Dec.{leb, ltb, eqb}
 use lib.ListN.{length, take, drop, set, length-set}
 use lib.Seq.{getD-set-same, take-take}
 use borrow.Author.Tests.{leb-true, ltb-true, eqb-true, le-leb, eq-eqb}
-use Rattle.model.specs.Lists.{ins, del, tab, every}
+use Rattle.model.specs.Basics.{ins, del, tab, every}
 use Rattle.model.specs.Tree.{Entry, Node, entry}
-use Rattle.model.specs.Page.{countOf, heightOf, entryIn, childIn, entriesOf, childrenOf, nodeOf, Holds}
+use Rattle.model.specs.Page.{countOf, heightOf, entryIn, childIn, entriesOf, childrenOf}
+use Rattle.model.specs.Standing.{nodeOf, Holds}
 use Rattle.page.specs.declared.Change.the-variants.{Done, Unsound}
 use Rattle.page.specs.Runs.{part, Changed}
 use Rattle.page.specs.Node.{alone, more, less, instead}
 use Rattle.page.specs.Page.{Long, said, firsts, roomAt, holdsAt, fullAt, did, Changes}
 use Rattle.model.proofs.Cases.{contrary}
-use Rattle.model.proofs.Lists.{map-set, every-true, map-tab, map-ins, map-del}
+use Rattle.model.proofs.Basics.{map-set, every-true, map-tab, map-ins, map-del}
 use Rattle.model.proofs.Read.{length-own}
-use Rattle.page.proofs.Lists.{take-ins, take-del}
+use Rattle.page.proofs.Running.{take-ins, take-del}
 use Rattle.page.proofs.Parts.{stored, then-next, part-here, part-low, part-high, part-set, at-low, at-high}
 use Rattle.page.proofs.Tables.{part-tab, keysOf, valuesOf, entries-by}
 
@@ -153,7 +155,8 @@ module _ {most n m l : ℕ} {ks vs cs zs p₀ p₁ p₂ p₃ page : List ℕ} (l
       (part-high s (2 + most) n (omega arith) ∙ part-low (c .changed) (2 + most) n (omega arith) ∙ part-here v n (omega arith) ∙ ve)
       (λ t. part-high s (2 + 2 * most) (suc n) (omega arith) ∙ part-here (c .changed) (suc n) (omega arith) ∙ ap (take (suc n)) (c .tall (omega (arith, height-kept))) ∙ ce t)
 
--- one more or one less: `es` does to entries what `ks` does to their keys and `vs` to their values, and the first n give the first m of what is made
+-- one more or one less: `es` does to entries what `ks` does to their keys and `vs` to their values, and the first n
+-- give the first m of what is made
 module _ (ks vs cs : List ℕ → List ℕ) (es : List Entry → List Entry) (keys : (l : List Entry) → keysOf (es l) ≡ ks (keysOf l)) (values : (l : List Entry) → valuesOf (es l) ≡ vs (valuesOf l))
     (n m : ℕ) (first-k : (l : List ℕ) → take m (ks l) ≡ ks (take n l)) (first-v : (l : List ℕ) → take m (vs l) ≡ vs (take n l)) (first-c : (l : List ℕ) → take (suc m) (cs l) ≡ cs (take (suc n) l)) where
   -- of the runs' words i give j, and of the children's a give b

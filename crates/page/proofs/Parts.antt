@@ -1,5 +1,5 @@
--- The law of a part that was lent and came back, once, over its start and its size: what stands before it and after it is as it was, and it holds
--- what was put there. A store at one place is the case of size 1.
+-- The law of a part that was lent and came back, once, over its start and its size: what stands before it and after it
+-- is as it was, and it holds what was put there. A store at one place is the case of size 1.
 -- Assumes nothing.
 use mathlib.Core.Path.{_≡_, refl, sym, ap, ap₂, _∙_}
 use mathlib.Core.List.{List, [], _∷_, _++_, append-assoc}
@@ -9,8 +9,8 @@ use native.Mathlib.Numerals.{add-one}
 use native.Mathlib.Omega.{arith}
 use lib.ListN.{length, take, drop, getD, set, take-append-drop, length-append, length-take, length-drop, drop-of-length-le}
 use lib.Seq.{take-take, take-all, drop-drop, take-at, drop-at, length-take-le, getD-take, getD-drop, set-split, take-add, drop-set-add, take-set-lt}
-use Rattle.model.specs.Lists.{ins}
-use Rattle.page.specs.Runs.{part, put, Changed}
+use Rattle.model.specs.Basics.{ins}
+use Rattle.page.specs.Runs.{part, withRun, Changed}
 
 module _ {A : Type 0} where
   pub length-part : (a n : ℕ) (xs : List A) → a + n ≤ length xs → length (part a n xs) ≡ n
@@ -32,8 +32,8 @@ module _ {A : Type 0} where
 
   -- ---- the size that the borrow checker gives, `e - a`, is n, and the part holds what the callee says
 
-  pub lent : (a : ℕ) (xs : List A) {n k : ℕ} {ys zs : List A} → k ≡ n → ys ≡ zs → put a k ys xs ≡ put a n zs xs
-  lent a xs p q = ap₂ (λ (i : ℕ) (l : List A). put a i l xs) p q
+  pub lent : (a : ℕ) (xs : List A) {n k : ℕ} {ys zs : List A} → k ≡ n → ys ≡ zs → withRun a k ys xs ≡ withRun a n zs xs
+  lent a xs p q = ap₂ (λ (i : ℕ) (l : List A). withRun a i l xs) p q
 
   -- all but the last of a part
   pub front : (a n k : ℕ) (xs : List A) → k ≡ suc n → a + k ≤ length xs → take (length (part a k xs) - 1) (part a k xs) ≡ part a n xs
@@ -42,7 +42,7 @@ module _ {A : Type 0} where
       rw l (take-take n k (drop a xs) (omega arith))
 
   -- a part whose last words are as they were is a shorter part
-  pub shorter : (a m n : ℕ) (ys xs : List A) → m ≤ n → put a n (ys ++ drop m (part a n xs)) xs ≡ put a m ys xs
+  pub shorter : (a m n : ℕ) (ys xs : List A) → m ≤ n → withRun a n (ys ++ drop m (part a n xs)) xs ≡ withRun a m ys xs
   shorter a m n ys xs h = ap (λ (r : List A). take a xs ++ r) (append-assoc ys _ _ ∙ ap (λ (r : List A). ys ++ r) (go m n (drop a xs) h))
     where
       go : (m n : ℕ) (l : List A) → m ≤ n → drop m (take n l) ++ drop n l ≡ drop m l
@@ -53,7 +53,7 @@ module _ {A : Type 0} where
 
   -- ---- what a part that came back leaves
 
-  pub changed : {a n : ℕ} {ys xs xs′ : List A} → xs′ ≡ put a n ys xs → length ys ≡ n → a + n ≤ length xs → Changed a n ys xs xs′
+  pub changed : {a n : ℕ} {ys xs xs′ : List A} → xs′ ≡ withRun a n ys xs → length ys ≡ n → a + n ≤ length xs → Changed a n ys xs xs′
   changed {a} {n} {ys} {xs} {xs′} e l h =
       let rest : List A = drop n (drop a xs) in
       let la : length (take a xs) ≡ a = length-take-le a xs (omega arith) in

@@ -8,16 +8,17 @@ use Prim.Native.Nat.{ℕ, suc, _+_, _*_, _-_, _≤_, _<_}
 use native.Mathlib.Omega.{arith}
 use lib.ListN.{length, take, drop, getD, set}
 use lib.Seq.{length-take-le, take-append-le, take-take, getD-set-same, getD-set-other}
-use Rattle.model.specs.Lists.{ins, tab}
+use Rattle.model.specs.Basics.{ins, tab}
 use Rattle.model.specs.Tree.{Entry, Node, noEntry, entry}
-use Rattle.model.specs.Page.{countOf, heightOf, entryIn, childIn, entriesOf, childrenOf, Holds}
+use Rattle.model.specs.Page.{countOf, heightOf, entryIn, childIn, entriesOf, childrenOf}
+use Rattle.model.specs.Standing.{Holds}
 use Rattle.model.specs.Insert.{cutLeft}
 use Rattle.page.specs.declared.Parting.the-variants.{Up, Unsound}
 use Rattle.page.specs.Node.{wider}
 use Rattle.page.specs.Page.{Long, said, firsts, parted, Splits}
 use Rattle.model.proofs.Cases.{contrary}
-use Rattle.model.proofs.Lists.{length-tab, getD-tab, tab-ext, ins-before, take-tab, ins-here, ins-after}
-use Rattle.page.proofs.Lists.{take-ins}
+use Rattle.model.proofs.Basics.{length-tab, getD-tab, tab-ext, ins-before, take-tab, ins-here, ins-after}
+use Rattle.page.proofs.Running.{take-ins}
 
 module _ {A : Type 0} where
   -- the same for a table, as the page's functions read it

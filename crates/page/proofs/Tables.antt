@@ -1,5 +1,5 @@
--- A page's entries and children are tables of words: a run of words as a table, what `map` makes of a table and of a list with one more or one less,
--- and a list of entries known by its keys and its values.
+-- A page's entries and children are tables of words: a run of words as a table, what `map` makes of a table and of a
+-- list with one more or one less, and a list of entries known by its keys and its values.
 -- Assumes nothing.
 use mathlib.Core.Path.{_≡_, refl, sym, ap, ap₂, _∙_}
 use mathlib.Core.List.{List, [], _∷_, map}
@@ -7,10 +7,10 @@ use Prim.Native.Nat.{ℕ, _+_, _≤_, _<_}
 use native.Mathlib.Omega.{arith}
 use lib.ListN.{length, getD}
 use lib.Seq.{ext-getD}
-use Rattle.model.specs.Lists.{tab}
+use Rattle.model.specs.Basics.{tab}
 use Rattle.model.specs.Tree.{Entry, entry}
 use Rattle.page.specs.Runs.{part}
-use Rattle.model.proofs.Lists.{length-tab, getD-tab}
+use Rattle.model.proofs.Basics.{length-tab, getD-tab}
 use Rattle.page.proofs.Parts.{length-part, part-at}
 
 pub part-tab : {A : Type 0} (a n : ℕ) (xs : List A) (d : A) → a + n ≤ length xs → part a n xs ≡ tab n (λ i. getD xs (a + i) d)

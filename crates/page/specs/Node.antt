@@ -1,10 +1,10 @@
--- One page's steps, over any type of child: an entry and a child more, an entry and a child less, another entry in the place of one.
--- Splitting, taking from a neighbour and joining are `model`'s cutLeft, cutRight and glue.
+-- One page's steps, over any type of child: an entry and a child more, an entry and a child less, another entry in the
+-- place of one. Splitting, taking from a neighbour and joining are `model`'s cutLeft, cutRight and glue.
 -- Assumes nothing: these are definitions.
 use mathlib.Core.List.{[], _∷_}
 use Prim.Native.Nat.{ℕ, suc}
 use lib.ListN.{set}
-use Rattle.model.specs.Lists.{ins, del}
+use Rattle.model.specs.Basics.{ins, del}
 use Rattle.model.specs.Tree.{Entry, Node}
 
 module _ {S : Type 0} where

@@ -1,5 +1,6 @@
--- Document 01, "Page": what one lent page holds, and the one shape of promise that its functions have. Counts of 0 and above `most` are answered as
--- unsound, and change nothing; what is left of a page is said by `model`'s nodes, with page numbers as children.
+-- Document 01, "Page": what one lent page holds, and the one shape of promise that its functions have. Counts of 0 and
+-- above `most` are answered as unsound, and change nothing; what is left of a page is said by `model`'s nodes, with
+-- page numbers as children.
 -- Assumes nothing: these are definitions.
 use mathlib.Core.Path.{_≡_}
 use mathlib.Core.Bool.{Bool, true, false, cond}
@@ -7,11 +8,12 @@ use mathlib.Core.List.{List, [], _∷_}
 use Prim.Native.Nat.{ℕ, suc, _+_, _*_, _≤_}
 use lib.Dec.{leb, ltb, eqb}
 use lib.ListN.{length, getD}
-use Rattle.model.specs.Lists.{tab, every}
+use Rattle.model.specs.Basics.{tab, every}
 use Rattle.model.specs.Tree.{Entry, Node, noEntry}
-use Rattle.model.specs.Page.{countOf, heightOf, entryIn, childIn, entriesOf, nodeOf, Holds}
+use Rattle.model.specs.Page.{countOf, heightOf, entryIn, childIn, entriesOf}
+use Rattle.model.specs.Standing.{nodeOf, Holds}
 use Rattle.model.specs.Entries.{gapOf, gapBefore}
-use Rattle.model.specs.Gap.{at}
+use Rattle.model.specs.Search.{at}
 use Rattle.model.specs.Insert.{cutLeft}
 use Rattle.page.specs.declared.Change.{Change}
 use Rattle.page.specs.declared.Change.the-variants.{Done, Unsound}

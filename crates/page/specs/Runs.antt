@@ -1,5 +1,5 @@
--- A run of words inside a longer one: the part itself, what stands there after it was lent and came back, and what a caller wants to know of that.
--- Nothing here knows of pages.
+-- A run of words inside a longer one: the part itself, what stands there after it was lent and came back, and what a
+-- caller wants to know of that. Nothing here knows of pages.
 -- Assumes nothing: these are definitions.
 use mathlib.Core.Path.{_≡_}
 use mathlib.Core.Bool.{Bool, true, false, cond}
@@ -14,8 +14,8 @@ module _ {A : Type 0} where
   part a n xs = take n (drop a xs)
 
   -- ys in the place of the n words from a on: what a part that was lent leaves when it comes back
-  abbrev pub put : ℕ → ℕ → List A → List A → List A
-  put a n ys xs = take a xs ++ (ys ++ drop n (drop a xs))
+  abbrev pub withRun : ℕ → ℕ → List A → List A → List A
+  withRun a n ys xs = take a xs ++ (ys ++ drop n (drop a xs))
 
 -- xs′ is xs with ys in the place of the n words from a on, by what a caller wants to know
 pub record Changed {A : Type 0} (a n : ℕ) (ys xs xs′ : List A) : Type 0 where

@@ -1,13 +1,14 @@
-// A page: word 0 the entry count, word 1 the height, then keys, values and child page numbers. Each function works on the words of one page, which are lent;
-// any words are taken. `most` is the most entries a page may hold: 9 gives keys from word 2, values from 11, children from 20.
-// In a leaf, whose height is 0, children are neither moved nor promised.
+// A page: word 0 the entry count, word 1 the height, then keys, values and child page numbers. Each function works on
+// the words of one page, which are lent; any words are taken. `most` is the most entries a page may hold: 9 gives keys
+// from word 2, values from 11, children from 20. In a leaf, whose height is 0, children are neither moved nor promised.
 ghost use mathlib.Core.Path.{_≡_};
 ghost use mathlib.Core.Bool.{true, false};
 ghost use Prim.Native.Nat.{suc, _+_, _*_, _≤_, _<_};
 ghost use lib.ListN.{length, getD};
-ghost use Rattle.model.specs.Lists.{ins};
+ghost use Rattle.model.specs.Basics.{ins};
 ghost use Rattle.model.specs.Tree.{entry, noEntry};
-ghost use Rattle.model.specs.Page.{countOf, heightOf, entryIn, childIn, entriesOf, childrenOf, Holds};
+ghost use Rattle.model.specs.Page.{countOf, heightOf, entryIn, childIn, entriesOf, childrenOf};
+ghost use Rattle.model.specs.Standing.{Holds};
 ghost use Rattle.model.specs.Insert.{cutLeft};
 ghost use Rattle.page.specs.Runs.{upTo};
 ghost use Rattle.page.specs.Node.{alone, more, wider, less, instead};
@@ -51,7 +52,8 @@ pub fn gap_before(page: &[u64], most: usize, key: u64) -> Slot
     Slot::At(runs::scan(&page[2..2 + most], n, key, false))
 }
 
-// The slot of the gap after `key`: after the keys up to it. Above the leaves the way there is mostly that of the call before, as from next to next.
+// The slot of the gap after `key`: after the keys up to it. Above the leaves the way there is mostly that of the call
+// before, as from next to next.
 pub fn gap_after(page: &[u64], most: usize, key: u64) -> Slot
     requires { ⌜ Long most (now page) × (most < 64) ⌝ }
     ensures { λ r. ⌜ r ≡ gapIn most (now (page .entry)) (upTo key true) ⌝ }
@@ -229,7 +231,8 @@ pub fn insert(
     }
 }
 
-// The same for a page that is taken to hold `n` entries, whatever its count says. All words of each part move, also those past the count, so that their number can be foreseen.
+// The same for a page that is taken to hold `n` entries, whatever its count says. All words of each part move, also
+// those past the count, so that their number can be foreseen.
 fn widen(
     page: &mut [u64],
     most: usize,
@@ -353,7 +356,8 @@ pub fn wider_child(page: &[u64], most: usize, at: usize, child: u64, i: usize) -
     child_at(page, most, i - 1)
 }
 
-// A full page with one entry more, and the child after it, keeps the first `n` entries; the next one goes up. Those after it are given away beforehand.
+// A full page with one entry more, and the child after it, keeps the first `n` entries; the next one goes up. Those
+// after it are given away beforehand.
 pub fn split(
     page: &mut [u64],
     most: usize,

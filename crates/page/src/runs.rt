@@ -4,11 +4,12 @@ ghost use mathlib.Core.Bool.{true};
 ghost use mathlib.Core.List.{_++_};
 ghost use Prim.Native.Nat.{suc, _+_, _-_, _≤_, _<_};
 ghost use lib.ListN.{length, take, drop};
-ghost use Rattle.model.specs.Lists.{ins, del};
+ghost use Rattle.model.specs.Basics.{ins, del};
 ghost use Rattle.page.specs.Runs.{part, Changed, leading, upTo};
 
-// The words from `at` on move up by one, the last one is lost, and `v` stands at `at`.
-// All words are moved, with no jump on the way: how many lie after the place can't be foreseen, and a jump foretold wrongly costs more than the rest.
+// The words from `at` on move up by one, the last one is lost, and `v` stands at `at`. All words are moved, with no
+// jump on the way: how many lie after the place can't be foreseen, and a jump foretold wrongly costs more than the
+// rest.
 pub fn push_in(s: &mut [u64], at: usize, v: u64)
     requires { ⌜ at < length (now s) ⌝ }
     ensures { λ _. ⌜ now (s .exit) ≡ ins at v (take (length (now (s .entry)) - 1) (now (s .entry))) ⌝ }
@@ -33,8 +34,9 @@ pub fn pull_out(s: &mut [u64], at: usize)
     }
 }
 
-// How many of the first `n` words stand in front that are below `key` or, where `past`, at most `key`. All words are compared, with no jump on the way: where a key belongs can't be foreseen, and
-// a jump foretold wrongly costs more than the rest of a page. The first word that fails is at the mask's trailing ones.
+// How many of the first `n` words stand in front that are below `key` or, where `past`, at most `key`. All words are
+// compared, with no jump on the way: where a key belongs can't be foreseen, and a jump foretold wrongly costs more than
+// the rest of a page. The first word that fails is at the mask's trailing ones.
 pub fn scan(s: &[u64], n: usize, key: u64, past: bool) -> usize
     requires { ⌜ (n ≤ length (now s)) × (length (now s) < 64) ⌝ }
     ensures { λ r. ⌜ r ≡ leading (upTo key past) (take n (now (s .entry))) ⌝ }

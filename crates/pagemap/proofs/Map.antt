@@ -10,10 +10,11 @@ use lib.Count.{ones, trailingZeros, trailing-le}
 use lib.ListN.{length, set, length-set}
 use lib.Pow.{pow-lt}
 use lib.Seq.{getD-set-same, getD-set-other}
-use Rattle.model.specs.Lists.{sumTo, same}
+use Rattle.model.specs.Basics.{same}
+use Rattle.model.specs.Sums.{sumTo}
 use Rattle.model.specs.Layout.{word}
-use Rattle.model.specs.PageMap.{bit, bitAt, countBits}
-use Rattle.pagemap.specs.Bits.{setBit, clearBit}
+use Rattle.model.specs.PageMap.{bit, bitAt}
+use Rattle.pagemap.specs.Bits.{countBits, setBit, clearBit}
 use Rattle.pagemap.specs.Lowest.{freeIn}
 use Rattle.model.proofs.Cases.{either-lt, either-eq, same-eq, same-other, same-le}
 use Rattle.model.proofs.Sums.{sumTo-ext, sumTo-add, sumTo-le, sumTo-tight}

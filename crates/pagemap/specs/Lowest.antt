@@ -15,9 +15,9 @@ abbrev pub freeIn : List ℕ → ℕ → List ℕ
 freeIn words P = freePages (bitAt words) P
 
 -- what is answered where these pages are free, lowest first
-abbrev pub firstOf : List ℕ → Lowest
-firstOf [] = None
-firstOf (p ∷ ps) = Page p
+abbrev pub lowestOf : List ℕ → Lowest
+lowestOf [] = None
+lowestOf (p ∷ ps) = Page p
 
 -- the map once that page is taken
 abbrev pub took : List ℕ → Lowest → List ℕ

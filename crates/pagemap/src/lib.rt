@@ -1,13 +1,13 @@
-// The page map: bit b of word w, counted from the lowest, stands for page 64w + b; 1 means taken. Its words are lent, and one is held at a time.
-// The promises hold for any words; `pages` is P.
+// The page map: bit b of word w, counted from the lowest, stands for page 64w + b; 1 means taken. Its words are lent,
+// and one is held at a time. The promises hold for any words; `pages` is P.
 ghost use mathlib.Core.Path.{_≡_};
 ghost use Prim.Native.Nat.{_+_, _*_, _≤_, min};
 ghost use lib.Dec.{eqb};
 ghost use lib.ListN.{length};
-ghost use Rattle.model.specs.Lists.{sumTo};
-ghost use Rattle.model.specs.PageMap.{bit, bitAt, countBits};
-ghost use Rattle.pagemap.specs.Bits.{setBit, clearBit};
-ghost use Rattle.pagemap.specs.Lowest.{freeIn, firstOf, took, enough, mostWords};
+ghost use Rattle.model.specs.Sums.{sumTo};
+ghost use Rattle.model.specs.PageMap.{bit, bitAt};
+ghost use Rattle.pagemap.specs.Bits.{countBits, setBit, clearBit};
+ghost use Rattle.pagemap.specs.Lowest.{freeIn, lowestOf, took, enough, mostWords};
 
 // The lowest free page, where there is one.
 pub enum Lowest {
@@ -53,7 +53,7 @@ pub fn free(map: &mut [u64], page: usize)
 // The lowest free page: the first word that is not full has it at its trailing ones.
 pub fn lowest_free(map: &[u64], pages: usize) -> Lowest
     requires { ⌜ (length (now map) ≤ mostWords) × (pages ≤ 64 * length (now map)) ⌝ }
-    ensures { λ r. ⌜ r ≡ firstOf (freeIn (now (map .entry)) pages) ⌝ }
+    ensures { λ r. ⌜ r ≡ lowestOf (freeIn (now (map .entry)) pages) ⌝ }
 {
     let mut w: usize = 0;
     while w < map.len() {
@@ -73,7 +73,7 @@ pub fn lowest_free(map: &[u64], pages: usize) -> Lowest
 // Takes the lowest free page, and says which it was.
 pub fn take_lowest(map: &mut [u64], pages: usize) -> Lowest
     requires { ⌜ (length (now map) ≤ mostWords) × (pages ≤ 64 * length (now map)) ⌝ }
-    ensures { λ r. ⌜ (r ≡ firstOf (freeIn (now (map .entry)) pages)) × (now (map .exit) ≡ took (now (map .entry)) r) ⌝ }
+    ensures { λ r. ⌜ (r ≡ lowestOf (freeIn (now (map .entry)) pages)) × (now (map .exit) ≡ took (now (map .entry)) r) ⌝ }
 {
     let found = lowest_free(map, pages);
     match found {
@@ -116,7 +116,8 @@ pub fn has_free(map: &[u64], pages: usize, k: usize) -> bool
     k <= free
 }
 
-// How many of the word's lowest `n` bits are 0; of all its bits where `n` is more. A full word, as most are in a pool in use, is passed over.
+// How many of the word's lowest `n` bits are 0; of all its bits where `n` is more. A full word, as most are in a pool
+// in use, is passed over.
 fn zeros(word: u64, n: usize) -> usize
     ensures { λ r. ⌜ r + sumTo (bit word) (min n 64) ≡ min n 64 ⌝ }
 {

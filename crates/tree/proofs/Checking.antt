@@ -11,15 +11,16 @@ use native.Mathlib.Omega.{arith}
 use lib.Dec.{eqb}
 use lib.ListN.{length}
 use borrow.Author.Tests.{eqb-true, eq-eqb}
-use Rattle.model.specs.Lists.{tab, All, sum, same}
+use Rattle.model.specs.Basics.{tab, All, sum, same}
 use Rattle.model.specs.Layout.{mostLevels, pagesIn, word, today}
 use Rattle.model.specs.Head.{countWord, rootWord, levelsWord, openWord, afterWord, keyWord, headed, geometryOf}
-use Rattle.model.specs.PageMap.{bitAt, countBits}
-use Rattle.model.specs.Tree.{Entry, Tree, weave, entries, times, Rising, Shaped, pagesBelow, pagesOf, meets, held, Formed}
+use Rattle.model.specs.PageMap.{bitAt}
+use Rattle.model.specs.Tree.{Entry, Tree, weave, entries, times, Rising, Shaped, meets, held, Formed}
 use Rattle.model.specs.Page.{countOf, keyPlace, entryIn, entriesOf}
 use Rattle.model.specs.Standing.{Standing}
 use Rattle.model.specs.Entries.{has, lookup}
-use Rattle.model.specs.Gap.{Found, find}
+use Rattle.model.specs.Search.{Found}
+use Rattle.model.specs.Path.{find}
 use Rattle.model.specs.Pool.{wholeOf, poolOf}
 use Rattle.model.specs.Sound.{Sound}
 use Rattle.model.specs.PoolCalls.{Checks}
@@ -32,17 +33,18 @@ use Rattle.tree.specs.Sits.{Sits}
 use Rattle.tree.specs.Search.{gotBy, GetsBelow}
 use Rattle.tree.specs.Check.{overTree, Walks, Cursored, CursorIs}
 use Rattle.model.proofs.Cases.{either-lt, either-eq, contrary, same-self, same-other, same-le, never}
-use Rattle.model.proofs.Lists.{all-both}
+use Rattle.model.proofs.Basics.{all-both}
 use Rattle.model.proofs.Sums.{sum-append, sum-le, sumTo-ext}
 use Rattle.model.proofs.PageMap.{bitAt-lt}
 use Rattle.model.proofs.Head.{head-facts}
 use Rattle.model.proofs.Entries.{there, has-lookup}
 use Rattle.model.proofs.Search.{find-held}
-use Rattle.model.proofs.Numbers.{pages-met}
+use Rattle.model.proofs.Numbers.{pagesBelow, pagesOf, pages-met}
 use Rattle.model.proofs.Read.{length-own, read-page}
 use Rattle.model.proofs.Standing.{read-standing}
 use Rattle.model.proofs.Right.{sound-right, right-pages}
 use Rattle.pagemap.proofs.Map.{met-exactly}
+use Rattle.pagemap.specs.Bits.{countBits}
 use Rattle.lend.proofs.Touching.{map-bits}
 use Rattle.lend.proofs.Fitting.{headed-sized, head-root, head-levels}
 use Rattle.tree.proofs.Meeting.{Follows, Goes}

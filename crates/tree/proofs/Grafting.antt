@@ -8,24 +8,25 @@ use Prim.Native.Nat.{ℕ, zero, suc, _+_, _-_, _≤_, _<_, pred}
 use native.Mathlib.Omega.{arith}
 use lib.ListN.{length, drop, getD, length-drop}
 use borrow.Author.Tests.{le-leb, lt-leb}
-use Rattle.model.specs.Lists.{ins, sum, All, sumTo, same}
+use Rattle.model.specs.Basics.{ins, sum, All, same}
+use Rattle.model.specs.Sums.{sumTo}
 use Rattle.model.specs.Layout.{pagesIn, today}
 use Rattle.model.specs.PageMap.{bitAt}
 use Rattle.model.specs.Tree.{Entry, Node, Tree, entry, noEntry, noTree, size, times}
 use Rattle.model.specs.Page.{countOf, heightOf, entriesOf, childrenOf}
-use Rattle.model.specs.Standing.{numberOf, Standing}
+use Rattle.model.specs.Standing.{pageNumber, Standing}
 use Rattle.model.specs.Gap.{slotAt, restAt, childAt}
 use Rattle.model.specs.Insert.{Up, whole, split, cutLeft, cutRight, fit, grown, withChild, put, insertAt, run}
 use Rattle.pagemap.specs.declared.Lowest.the-variants as lowest
 use Rattle.pagemap.specs.Bits.{setBit}
-use Rattle.pagemap.specs.Lowest.{firstOf}
+use Rattle.pagemap.specs.Lowest.{lowestOf}
 use Rattle.lend.specs.Pages.{least, most, keeps, pageIn, mapIn}
 use Rattle.lend.specs.Touches.{Sized, Touches}
 use Rattle.tree.specs.declared.insert.Up.the-variants as up
 use Rattle.tree.specs.Sits.{PathOf, Sits}
 use Rattle.tree.specs.Insert.{freesIn, freshIn, fuller, Fits, Parts, Puts, Marked, upOf, UpStands, grownPages, Grows, InsertsBelow}
 use Rattle.model.proofs.Cases.{either-lt, same-self, same-zero, never}
-use Rattle.model.proofs.Lists.{length-ins, all-take, all-drop, splice-same, splice-more}
+use Rattle.model.proofs.Basics.{length-ins, all-take, all-drop, splice-same, splice-more}
 use Rattle.model.proofs.Sums.{sum-splice}
 use Rattle.model.proofs.Search.{path-long}
 use Rattle.model.proofs.Insert.{Used, insertAt-used, insertAt-times, upLeft, insertAt-root}
@@ -63,7 +64,7 @@ module _ {w : List ℕ} {low h : ℕ} {t : Tree (suc h)} {g : ℕ} (a : Ready w 
   used : Used h (upBelow w h t g e) (runBelow h t g)
   used = insertAt-used least (freshIn w) least h (childAt h t g) (restAt h t g) e (child-ready a .sits .shaped) (child-ready a .within)
 
-  number : numberOf h (upLeft (upBelow w h t g e)) ≡ numberOf h (childAt h t g)
+  number : pageNumber h (upLeft (upBelow w h t g e)) ≡ pageNumber h (childAt h t g)
   number = ap pred (insertAt-root least (freshIn w) h (childAt h t g) (restAt h t g) e)
 
   -- ---- the child stayed whole
@@ -80,7 +81,7 @@ module _ {w : List ℕ} {low h : ℕ} {t : Tree (suc h)} {g : ℕ} (a : Ready w 
           record {
             height = ap heightOf kept ∙ stood .height;
             own = ap (entriesOf most) kept ∙ stood .own;
-            children = λ tall. ap (childrenOf most) kept ∙ stood .children tall ∙ splice-same (numberOf h) (t .children) i c (noTree h) (inside a) (rw is at number);
+            children = λ tall. ap (childrenOf most) kept ∙ stood .children tall ∙ splice-same (pageNumber h) (t .children) i c (noTree h) (inside a) (rw is at number);
           },
           others-stand a w₁ (G .touches) (c ∷ []) (rw is at (G .stands), tt),
         )
@@ -107,9 +108,9 @@ module _ {w : List ℕ} {low h : ℕ} {t : Tree (suc h)} {g : ℕ} (a : Ready w 
     wide = grown t (slotAt h t g) l x r
 
     abbrev words : Node ℕ
-    words = fuller w₁ (t .page) (slotAt h t g) x (numberOf h r)
+    words = fuller w₁ (t .page) (slotAt h t g) x (pageNumber h r)
 
-    words-say : Says h (numberOf h) words wide
+    words-say : Says h (pageNumber h) words wide
     unfolding Standing
     words-say =
         let i = slotAt h t g in
@@ -117,8 +118,8 @@ module _ {w : List ℕ} {low h : ℕ} {t : Tree (suc h)} {g : ℕ} (a : Ready w 
         let stood = a .sits .stands .0 in
         record {
           own = ap (λ (es : List Entry). ins i x es) (ap (entriesOf most) kept ∙ stood .own);
-          children = λ tall. ap (λ (cs : List ℕ). ins (suc i) (numberOf h r) cs) (ap (childrenOf most) kept ∙ stood .children tall)
-              ∙ splice-more (numberOf h) (t .children) i l r (noTree h) (inside a) (rw is at number);
+          children = λ tall. ap (λ (cs : List ℕ). ins (suc i) (pageNumber h r) cs) (ap (childrenOf most) kept ∙ stood .children tall)
+              ∙ splice-more (pageNumber h) (t .children) i l r (noTree h) (inside a) (rw is at number);
         }
 
     words-long : length (wide .own) ≡ suc (length (t .own))
@@ -139,12 +140,12 @@ module _ {w : List ℕ} {low h : ℕ} {t : Tree (suc h)} {g : ℕ} (a : Ready w 
 
     -- ---- and there is room
 
-    room-grows : (r₂ : up.the-data) → length (t .own) < most → Fits (t .page) (slotAt h t g) x (numberOf h r) w₁ w₂ r₂ → Grows w (suc h) t g e w₂ r₂
+    room-grows : (r₂ : up.the-data) → length (t .own) < most → Fits (t .page) (slotAt h t g) x (pageNumber h r) w₁ w₂ r₂ → Grows w (suc h) t g e w₂ r₂
     unfolding insertAt put fit Standing
     room-grows r₂ few f =
         let k = run-ends h t g run-is few in
         grows-by w (suc h) t g e w₂ r₂ (whole wide) (rw (is, words-long, le-leb (suc (length (t .own))) most few)) (f .answer) (
-          says-holds h (numberOf h) words-say (rw height-is at (f .holds)),
+          says-holds h (pageNumber h) words-say (rw height-is at (f .holds)),
           all-standing least (pageIn w₁) (pageIn w₂) h (wide .children)
               (λ q some. sym (f .only .others q (same-zero q (t .page) (omega (arith, children-met q, once-below a q)), tt))) children-stand,
         )
@@ -167,7 +168,7 @@ module _ {w : List ℕ} {low h : ℕ} {t : Tree (suc h)} {g : ℕ} (a : Ready w 
       page-apart : t .page ≢ freshIn w h
       page-apart = same-zero (t .page) (freshIn w h) (omega (arith, once-more (t .page), same-self (t .page)))
 
-      next-free : firstOf (freesIn w₁) ≡ lowest.Page (freshIn w h)
+      next-free : lowestOf (freesIn w₁) ≡ lowest.Page (freshIn w h)
       next-free =
           let room = a .room in
           rw (G .touches .long)
@@ -181,7 +182,7 @@ module _ {w : List ℕ} {low h : ℕ} {t : Tree (suc h)} {g : ℕ} (a : Ready w 
           (map-bits w₁ (omega arith)) (λ p. rw run-is at (G .bits p)) next-free in
           rw (map, k) (omega (arith, taken .2 q))
 
-      full-grows : (r₂ : up.the-data) → length (t .own) ≡ most → Parts (t .page) (freshIn w h) (slotAt h t g) x (numberOf h r) w₁ w₂ r₂ → Grows w (suc h) t g e w₂ r₂
+      full-grows : (r₂ : up.the-data) → length (t .own) ≡ most → Parts (t .page) (freshIn w h) (slotAt h t g) x (pageNumber h r) w₁ w₂ r₂ → Grows w (suc h) t g e w₂ r₂
       unfolding insertAt put fit Standing
       full-grows r₂ full f =
           let q = freshIn w h in
@@ -191,18 +192,18 @@ module _ {w : List ℕ} {low h : ℕ} {t : Tree (suc h)} {g : ℕ} (a : Ready w 
           (rw (is, words-long, lt-leb (suc (length (t .own))) most (omega arith)))
           (f .answer ∙ ap (λ (es : List Entry). up.Split (getD es keeps noEntry .key) (getD es keeps noEntry .value) q) (words-say .own)) (
             (
-              says-holds h (numberOf h) (says-left h (numberOf h) keeps words-say) (rw height-is at (f .left)),
+              says-holds h (pageNumber h) (says-left h (pageNumber h) keeps words-say) (rw height-is at (f .left)),
               all-take (Standing least (pageIn w₂) h) (suc keeps) (wide .children) stand,
             ),
             (
-              says-holds h (numberOf h) (says-right h (numberOf h) q keeps words-say) (rw height-is at (f .right)),
+              says-holds h (pageNumber h) (says-right h (pageNumber h) q keeps words-say) (rw height-is at (f .right)),
               all-drop (Standing least (pageIn w₂) h) (suc keeps) (wide .children) stand,
             ),
           )
           (next-taken (f .map))
           (touches-both h t g (G .touches) k (f .touches))
 
-    split-grows : (r₂ : up.the-data) → Puts (t .page) (slotAt h t g) x (numberOf h r) w₁ w₂ r₂ → Grows w (suc h) t g e w₂ r₂
+    split-grows : (r₂ : up.the-data) → Puts (t .page) (slotAt h t g) x (pageNumber h r) w₁ w₂ r₂ → Grows w (suc h) t g e w₂ r₂
     split-grows r₂ P =
         let count : countOf (pageIn w₁ (t .page)) ≡ length (t .own) = ap countOf (page-kept a w₁ (G .touches)) ∙ root-count w h t (a .sits .stands) in
         let slot = sits-slot w low h t (a .sits) g (a .within) in
@@ -223,7 +224,7 @@ module _ {w : List ℕ} {low h : ℕ} {t : Tree (suc h)} {g : ℕ} (a : Ready w 
           let handed : up.Split k v child ≡ upOf h (split l x r) = rw is at (G .handed) in
           let key : k ≡ x .key = cc in
           let value : v ≡ x .value = cc in
-          let right : child ≡ numberOf h r = cc in
+          let right : child ≡ pageNumber h r = cc in
           split-grows w₁ w₂ G l x r is r₂ (rw (key, value, right) at P)
 
 -- ---- along a path

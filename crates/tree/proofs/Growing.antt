@@ -9,19 +9,21 @@ use Prim.Native.Nat.{ℕ, suc, _+_, _≤_, _<_}
 use native.Mathlib.Omega.{arith}
 use lib.ListN.{length, take, drop}
 use borrow.Author.Tests.{le-leb, lt-leb, eq-eqb, ne-eqb}
-use Rattle.model.specs.Lists.{splice, tab, sum, All, sumTo, same}
+use Rattle.model.specs.Basics.{splice, tab, sum, All, same}
+use Rattle.model.specs.Sums.{sumTo}
 use Rattle.model.specs.Layout.{pagesIn, today}
 use Rattle.model.specs.PageMap.{bitAt}
 use Rattle.model.specs.Tree.{Entry, Tree, noTree, size, times, Shaped}
 use Rattle.model.specs.Standing.{Standing}
-use Rattle.model.specs.Gap.{slotAt, restAt, childAt, gapPages}
+use Rattle.model.specs.Gap.{slotAt, restAt, childAt}
+use Rattle.model.specs.Path.{gapPages}
 use Rattle.model.specs.Insert.{Up, insertAt, run}
 use Rattle.lend.specs.Pages.{least, most, pageIn, mapIn}
 use Rattle.lend.specs.Touches.{Touches}
 use Rattle.tree.specs.Sits.{Sits}
 use Rattle.tree.specs.Insert.{freesIn, freshIn, Marked, grownPages}
 use Rattle.model.proofs.Cases.{same-self}
-use Rattle.model.proofs.Lists.{all-append, all-left, all-right, all-take, all-at, take-tab, getD-tab, length-tab}
+use Rattle.model.proofs.Basics.{all-append, all-left, all-right, all-take, all-at, take-tab, getD-tab, length-tab}
 use Rattle.model.proofs.Sums.{sum-append, sum-at, all-apart, sum-tab}
 use Rattle.model.proofs.PageMap.{fresh-once}
 use Rattle.model.proofs.Gap.{path-met}

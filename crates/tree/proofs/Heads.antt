@@ -12,11 +12,12 @@ use lib.Seq.{drop-drop, drop-set-lt, getD-set-same, getD-set-other}
 use Rattle.model.specs.Layout.{headWords, pageWords, mapWords, firstWord, word, today}
 use Rattle.model.specs.PageMap.{mapAt}
 use Rattle.model.specs.Tree.{Entry}
-use Rattle.model.specs.Page.{countOf, Holds, pageAt}
+use Rattle.model.specs.Page.{countOf, pageAt}
+use Rattle.model.specs.Standing.{Holds}
 use Rattle.pagemap.specs.declared.Lowest.{Lowest}
 use Rattle.pagemap.specs.declared.Lowest.the-variants as lowest
 use Rattle.pagemap.specs.Bits.{clearBit}
-use Rattle.pagemap.specs.Lowest.{firstOf, took}
+use Rattle.pagemap.specs.Lowest.{lowestOf, took}
 use Rattle.page.specs.Node.{alone}
 use Rattle.lend.specs.Pages.{most, Inside, OnlyPages, pageIn, mapIn}
 use Rattle.lend.specs.Touches.{MapBecomes}
@@ -94,12 +95,12 @@ module _ (w : List ℕ) (r h : ℕ) where
 -- ---- a new root
 
 -- the lowest free page lies inside
-pub lowest-inside : (w w′ : List ℕ) (q : ℕ) → firstOf (freesIn w) ≡ lowest.Page q → length w′ ≡ length w → Inside q w′
+pub lowest-inside : (w w′ : List ℕ) (q : ℕ) → lowestOf (freesIn w) ≡ lowest.Page q → length w′ ≡ length w → Inside q w′
 lowest-inside w w′ q first long = omega (arith, lowest-is (mapIn w) _ q first)
 
 module _ (levels : ℕ) (e : Entry) (l r : ℕ) {w w₁ : List ℕ} where
   -- no page is free
-  pub roots-none : {a : Lowest} → a ≡ firstOf (freesIn w) → a ≡ lowest.None → MapBecomes (took (mapIn w) a) w w₁ → NewRoots levels e l r w w₁
+  pub roots-none : {a : Lowest} → a ≡ lowestOf (freesIn w) → a ≡ lowest.None → MapBecomes (took (mapIn w) a) w w₁ → NewRoots levels e l r w w₁
   roots-none first none m = record {
     long = m .keeps .long;
     count = touches-word (m .keeps) 2 (omega arith);
@@ -107,7 +108,7 @@ module _ (levels : ℕ) (e : Entry) (l r : ℕ) {w w₁ : List ℕ} where
   }
 
   -- page q is taken, then written, and then named by the head
-  pub roots-done : {w₂ : List ℕ} {a : Lowest} (q : ℕ) → headWords ≤ length w → a ≡ firstOf (freesIn w) → a ≡ lowest.Page q → MapBecomes (took (mapIn w) a) w w₁
+  pub roots-done : {w₂ : List ℕ} {a : Lowest} (q : ℕ) → headWords ≤ length w → a ≡ lowestOf (freesIn w) → a ≡ lowest.Page q → MapBecomes (took (mapIn w) a) w w₁
       → Holds most levels (alone e l r) (pageIn w₂ q) → OnlyPages (q ∷ []) w₁ w₂ → NewRoots levels e l r w (rootedAs (q + 1) (levels + 1) w₂)
   roots-done {w₂} {a} q b first is m holds o =
       let long : length w₂ ≡ length w = o .long ∙ m .keeps .long in

@@ -8,7 +8,7 @@ use native.Mathlib.Omega.{arith}
 use lib.Dec.{ltb}
 use lib.ListN.{length}
 use borrow.Author.Tests.{le-leb, lt-leb, lt-ltb, le-ltb}
-use Rattle.model.specs.Lists.{final, del}
+use Rattle.model.specs.Basics.{final, del}
 use Rattle.model.specs.Tree.{entry, noEntry}
 use Rattle.model.specs.Page.{countOf, entryIn, entriesOf}
 use Rattle.model.specs.Remove as removal
@@ -20,7 +20,7 @@ use Rattle.tree.specs.declared.remove.Gone.{Gone}
 use Rattle.tree.specs.declared.remove.Gone.the-variants as gone
 use Rattle.tree.specs.Remove.{TakesOut, Inherits}
 use Rattle.model.proofs.Cases.{either, never}
-use Rattle.model.proofs.Lists.{final-at}
+use Rattle.model.proofs.Basics.{final-at}
 use Rattle.model.proofs.Gone.{gone-at}
 use Rattle.model.proofs.Read.{length-own}
 use Rattle.page.proofs.Pages.{holds-at}

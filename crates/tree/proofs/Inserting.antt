@@ -9,13 +9,13 @@ use Prim.Native.Nat.{ℕ, suc, pred, _+_, _≤_, _<_}
 use native.Mathlib.Omega.{arith}
 use lib.ListN.{length, take, getD, set, length-set}
 use borrow.Author.Tests.{eq-eqb, ne-eqb, lt-ltb, le-ltb}
-use Rattle.model.specs.Lists.{All, tab, ins}
+use Rattle.model.specs.Basics.{All, tab, ins}
 use Rattle.model.specs.Layout.{headWords, pagesIn, word, today}
 use Rattle.model.specs.Head.{geometryOf, levelsWord, headed}
 use Rattle.model.specs.PageMap.{bitAt}
 use Rattle.model.specs.Tree.{Entry, noEntry, entry, Tree, Whole, held, meets, times, Formed}
-use Rattle.model.specs.Standing.{rootOf, numberOf, Standing}
-use Rattle.model.specs.Gap.{gapPages}
+use Rattle.model.specs.Standing.{rootOf, pageNumber, Standing}
+use Rattle.model.specs.Path.{gapPages}
 use Rattle.model.specs.Insert as insertion
 use Rattle.model.specs.Insert.{whole, split, insertAt, top, insert, run, needed}
 use Rattle.model.specs.Pool.{withWhole, Pool, heldBy, freeOf, room, poolOf, gapBy, leastBy}
@@ -23,7 +23,7 @@ use Rattle.model.specs.Sound.{Sound}
 use Rattle.model.specs.Written.{Written}
 use Rattle.model.specs.MapCalls.{putAt, crowded}
 use Rattle.pagemap.specs.declared.Lowest.the-variants as lowest
-use Rattle.pagemap.specs.Lowest.{freeIn, firstOf}
+use Rattle.pagemap.specs.Lowest.{freeIn, lowestOf}
 use Rattle.lend.specs.Touches.{Sized}
 use Rattle.lend.specs.Pages.{least, pageIn, mapIn}
 use Rattle.tree.specs.declared.insert.Inserted.the-variants as inserted
@@ -32,7 +32,7 @@ use Rattle.tree.specs.declared.insert.Up.the-variants as up
 use Rattle.tree.specs.Sits.{PathOf}
 use Rattle.tree.specs.Insert.{freesIn, freshIn, Needs, upOf, UpStands, Grows, InsertsBelow, NewRoots, Inserts}
 use Rattle.model.proofs.Cases.{either-eq, contrary, never}
-use Rattle.model.proofs.Lists.{length-ins, ins-before, all-append, all-left, all-right, all-take, all-at, take-tab, getD-tab, length-tab, front-word}
+use Rattle.model.proofs.Basics.{length-ins, ins-before, all-append, all-left, all-right, all-take, all-at, take-tab, getD-tab, length-tab, front-word}
 use Rattle.model.proofs.PageMap.{free-same}
 use Rattle.model.proofs.Insert.{upTimes, Used, insertAt-used, insertAt-times, insert-held, upLeft, insertAt-root}
 use Rattle.model.proofs.Standing.{standing-frame}
@@ -74,9 +74,9 @@ topped-count ps (up.Split k v right) w₁ w₂ n = n .count
 
 -- ---- a tree that has grown, with its new root
 
-module _ (w₁ w₂ ps : List ℕ) (h k q : ℕ) (first : k ≡ h → firstOf (freesIn w₁) ≡ lowest.Page q) where
+module _ (w₁ w₂ ps : List ℕ) (h k q : ℕ) (first : k ≡ h → lowestOf (freesIn w₁) ≡ lowest.Page q) where
   pub top-carries : (w : List ℕ) (t : Tree h) (o : insertion.Up (Tree h)) → Sized w → length w₁ ≡ length w → take headWords w₁ ≡ take headWords w
-      → word w 3 ≡ rootOf h t → word w 4 ≡ h → length ps ≡ h → (0 < h → getD ps 0 0 ≡ numberOf h t) → rootOf h (upLeft o) ≡ rootOf h t → Used h o k
+      → word w 3 ≡ rootOf h t → word w 4 ≡ h → length ps ≡ h → (0 < h → getD ps 0 0 ≡ pageNumber h t) → rootOf h (upLeft o) ≡ rootOf h t → Used h o k
       → UpStands w₁ h o → ((p : ℕ) → bitAt (mapIn w₁) p ≡ upTimes (times p h) o) → Topped ps (upOf h o) w₁ w₂ → Carries w (top q h o) w₂
   unfolding top meets times Standing
   top-carries w t (whole c) sized long head root levels many there stays u stands bits e = rw e (record {
@@ -103,7 +103,7 @@ module _ (w₁ w₂ ps : List ℕ) (h k q : ℕ) (first : k ≡ h → firstOf (f
           record {
             height = rw many at (tops .holds .height);
             own = tops .holds .own;
-            children = λ b. tops .holds .children (omega arith) ∙ ap (λ (c : ℕ). c ∷ numberOf h r ∷ []) (there b ∙ ap pred (sym stays));
+            children = λ b. tops .holds .children (omega arith) ∙ ap (λ (c : ℕ). c ∷ pageNumber h r ∷ []) (there b ∙ ap pred (sym stays));
           },
           (
             standing-frame least (pageIn w₁) (pageIn w₂) h l (same-page l (omega arith)) (stands .0),
@@ -149,9 +149,9 @@ module _ (w : List ℕ) (P : Pool) (r : Right P) (a : Written w P) (g : ℕ) (e 
   abbrev o : insertion.Up (Tree h)
   o = insertAt least (freshIn w) h t g e
 
-  first : k ≡ h → firstOf (freesIn w₁) ≡ lowest.Page (freshIn w h)
+  first : k ≡ h → lowestOf (freesIn w₁) ≡ lowest.Page (freshIn w h)
   first e =
-      let there : firstOf (freeIn (mapIn w₁) (pagesIn today (length w))) ≡ lowest.Page (freshIn w k) =
+      let there : lowestOf (freeIn (mapIn w₁) (pagesIn today (length w))) ≡ lowest.Page (freshIn w k) =
       lowest-kth (mapIn w₁) (bitAt (mapIn w)) (pagesIn today (length w)) k (grows .bits) (omega (arith, needed-top least (P .whole) g e)) in
       rw (grows .touches .long) (rw e at there)
 

@@ -14,10 +14,10 @@ use Rattle.model.specs.PageMap.{bitAt}
 use Rattle.model.specs.Tree.{Entry, Whole, noEntry, held, meets, Formed}
 use Rattle.model.specs.Standing.{rootOf, Standing}
 use Rattle.model.specs.Entries.{Cursor, shut, gap}
-use Rattle.model.specs.Pool.{Pool, heldBy, gapIn, withWhole, leastBy}
+use Rattle.model.specs.Pool.{Pool, heldBy, openGap, withWhole, leastBy}
 use Rattle.model.specs.Written.{keyIn, Written, headOf}
 use Rattle.lend.specs.Pages.{least, pageIn, mapIn}
-use Rattle.model.proofs.Lists.{getD-tab}
+use Rattle.model.proofs.Basics.{getD-tab}
 use Rattle.model.proofs.Lawful.{geometry-same}
 use Rattle.model.proofs.Standing.{standing-frame}
 use Rattle.model.proofs.Right.{Right}
@@ -26,7 +26,7 @@ use Rattle.tree.proofs.Heads.{head-stored, head-map, head-page, stored-
 -- ---- the words of the head
 
 -- the key that an open cursor names stays where the keys before its gap stay
-pub key-stays : (es es′ : List Entry) (c : Cursor) → ((i : ℕ) → i < gapIn c → getD es′ i noEntry .key ≡ getD es i noEntry .key) → keyIn es′ c ≡ keyIn es c
+pub key-stays : (es es′ : List Entry) (c : Cursor) → ((i : ℕ) → i < openGap c → getD es′ i noEntry .key ≡ getD es i noEntry .key) → keyIn es′ c ≡ keyIn es c
 key-stays es es′ shut h = refl
 key-stays es es′ (gap zero) h = refl
 key-stays es es′ (gap (suc g)) h = h g (omega arith)

@@ -9,7 +9,7 @@ use native.Mathlib.Nat.{add-zero}
 use native.Mathlib.Omega.{arith}
 use lib.ListN.{length, length-append}
 use borrow.Author.Tests.{ltb-true, eqb-true, lt-ltb, le-ltb, eq-eqb, ne-eqb}
-use Rattle.model.specs.Lists.{All, final, sum, every}
+use Rattle.model.specs.Basics.{All, final, sum, every}
 use Rattle.model.specs.Layout.{pagesIn, today}
 use Rattle.model.specs.Head.{kindWord}
 use Rattle.model.specs.Tree.{Entry, noEntry, weave, Rising}
@@ -17,7 +17,7 @@ use Rattle.tree.specs.declared.check.Tally.{Tally}
 use Rattle.tree.specs.declared.check.Tally.the-variants as tally
 use Rattle.tree.specs.Check.{keyRises, valueFits, entryTests, overEntry, inTurn}
 use Rattle.model.proofs.Cases.{either, either-lt, either-eq, contrary}
-use Rattle.model.proofs.Lists.{all-append, all-left, all-right, all-at, every-true, every-all, final-at, final-append}
+use Rattle.model.proofs.Basics.{all-append, all-left, all-right, all-at, every-true, every-all, final-at, final-append}
 use Rattle.model.proofs.Entries.{rising-left, rising-lo, rising-around}
 
 -- the entries met: their number, and the last key

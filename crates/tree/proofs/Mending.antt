@@ -11,13 +11,14 @@ use lib.Dec.{leb, ltb}
 use lib.ListN.{length, take, drop, getD, length-map, length-take, length-drop}
 use lib.Seq.{getD-take, getD-drop}
 use borrow.Author.Tests.{le-leb, lt-ltb, ne-eqb}
-use Rattle.model.specs.Lists.{sum, same, All, every}
+use Rattle.model.specs.Basics.{sum, same, All, every}
 use Rattle.model.specs.Layout.{pagesIn, today}
 use Rattle.model.specs.PageMap.{bitAt}
 use Rattle.model.specs.Tree.{Node, Tree, noNode, times, Filled, Shaped}
 use Rattle.model.specs.Page.{countOf}
-use Rattle.model.specs.Standing.{numberOf, Standing}
-use Rattle.model.specs.Mend.{Plan, keep, move, join, plan, nodeAt, count, mend, spare}
+use Rattle.model.specs.Standing.{pageNumber, Standing}
+use Rattle.model.specs.Mend.{Plan, keep, move, join, plan, nodeAt, count, mend}
+use Rattle.model.specs.Freed.{spare}
 use Rattle.model.specs.Remove.{planAt}
 use Rattle.page.specs.declared.Change.{Change}
 use Rattle.page.specs.Page.{holdsAt, roomAt}
@@ -28,7 +29,7 @@ use Rattle.tree.specs.Search.{belowOf}
 use Rattle.tree.specs.Insert.{Marked}
 use Rattle.tree.specs.Remove.{countBelow, Plans, MovesLeft, MovesRight, Joined, JoinsBelow, near, Mended, Mends}
 use Rattle.model.proofs.Cases.{either-lt, same-self}
-use Rattle.model.proofs.Lists.{all-map, all-around, all-at, getD-map, every-all}
+use Rattle.model.proofs.Basics.{all-map, all-around, all-at, getD-map, every-all}
 use Rattle.model.proofs.PageMap.{bitAt-past}
 use Rattle.model.proofs.Mend.{filled-loosen, Loose, Able, plan-able}
 use Rattle.pagemap.proofs.Map.{clear-bits, bitAt-le}
@@ -159,11 +160,11 @@ module _ (w : List ℕ) (h : ℕ) (t : Tree (suc (suc h))) (i : ℕ) (stands : S
         )
 
   -- the two pages are among those that may change
-  near-two : (j : ℕ) → j < length (t .own) → j ≤ i → i ≤ suc j → (q : ℕ) → All (λ p. q ≢ p) (map (numberOf (suc h)) (near i (t .children)))
+  near-two : (j : ℕ) → j < length (t .own) → j ≤ i → i ≤ suc j → (q : ℕ) → All (λ p. q ≢ p) (map (pageNumber (suc h)) (near i (t .children)))
       → (q ≢ (nodeAt t j) .page) × (q ≢ (nodeAt t (suc j)) .page)
   near-two j b low high q a = (
-    near-at (λ p. q ≢ p) (numberOf (suc h)) i j (t .children) noNode high (omega arith) (omega arith) a,
-    near-at (λ p. q ≢ p) (numberOf (suc h)) i (suc j) (t .children) noNode (omega arith) (omega arith) (omega arith) a,
+    near-at (λ p. q ≢ p) (pageNumber (suc h)) i j (t .children) noNode high (omega arith) (omega arith) a,
+    near-at (λ p. q ≢ p) (pageNumber (suc h)) i (suc j) (t .children) noNode (omega arith) (omega arith) (omega arith) a,
   )
 
   kept-mended : keep ≡ planAt least h t i → Mended h t i w w
@@ -171,7 +172,7 @@ module _ (w : List ℕ) (h : ℕ) (t : Tree (suc (suc h))) (i : ℕ) (stands : S
   kept-mended e = record {
     stands = subst (λ (p : Plan). Standing least (pageIn w) (suc (suc h)) (mend p t)) e stands;
     bits = λ q. subst (λ (p : Plan). bitAt (mapIn w) q + sum (same q) (spare p t) ≡ bitAt (mapIn w) q) e (omega arith);
-    touches = touches-none (t .page ∷ map (numberOf (suc h)) (near i (t .children))) refl;
+    touches = touches-none (t .page ∷ map (pageNumber (suc h)) (near i (t .children))) refl;
   }
 
   moved-mended : (j n : ℕ) {w′ : List ℕ} {a : Change} → move j n ≡ planAt least h t i
@@ -183,7 +184,7 @@ module _ (w : List ℕ) (h : ℕ) (t : Tree (suc (suc h))) (i : ℕ) (stands : S
       record {
         stands = subst (λ (p : Plan). Standing least (pageIn w′) (suc (suc h)) (mend p t)) e (moved-stands w h t stands forks once j b n m);
         bits = λ q. subst (λ (p : Plan). bitAt (mapIn w′) q + sum (same q) (spare p t) ≡ bitAt (mapIn w) q) e (omega (arith, ap (λ (ws : List ℕ). bitAt ws q) (only-map (m .only))));
-        touches = touches-wider (t .page ∷ map (numberOf (suc h)) (near i (t .children))) (only-touches (m .only))
+        touches = touches-wider (t .page ∷ map (pageNumber (suc h)) (near i (t .children))) (only-touches (m .only))
             (λ q a. let two = near-two j b (s .0) (s .1) q (a .1) in (a .0, (two .0, (two .1, tt))));
       }
 
@@ -199,7 +200,7 @@ module _ (w : List ℕ) (h : ℕ) (t : Tree (suc (suc h))) (i : ℕ) (stands : S
         stands = subst (λ (p : Plan). Standing least (pageIn w′) (suc (suc h)) (mend p t)) e (joined-stands w h t stands forks once j b m);
         bits = λ q. subst (λ (p : Plan). bitAt (mapIn w′) q + sum (same q) (spare p t) ≡ bitAt (mapIn w) q) e
             (omega (arith, ap (λ (ws : List ℕ). bitAt ws q) (m .map), clear-bits (mapIn w) r place taken q));
-        touches = touches-wider (t .page ∷ map (numberOf (suc h)) (near i (t .children))) (m .touches)
+        touches = touches-wider (t .page ∷ map (pageNumber (suc h)) (near i (t .children))) (m .touches)
             (λ q a. let two = near-two j b (s .0) (s .1) q (a .1) in (a .0, (two .0, tt)));
       }
 

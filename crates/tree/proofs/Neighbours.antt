@@ -9,9 +9,10 @@ use native.Mathlib.Omega.{arith}
 use lib.Dec.{leb}
 use lib.ListN.{length, getD}
 use borrow.Author.Tests.{le-leb}
-use Rattle.model.specs.Lists.{every}
+use Rattle.model.specs.Basics.{every}
 use Rattle.model.specs.Tree.{Tree, size, Shaped}
-use Rattle.model.specs.Gap.{slotAt, restAt, child, childAt, gapPages, gapSlots}
+use Rattle.model.specs.Gap.{slotAt, restAt, child, childAt}
+use Rattle.model.specs.Path.{gapPages, gapSlots}
 use Rattle.lend.specs.Pages.{least, most}
 use Rattle.tree.specs.Sits.{Sits}
 use Rattle.tree.specs.Remove.{countBelow, Beside, CanRemove}

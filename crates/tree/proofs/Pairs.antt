@@ -10,16 +10,16 @@ use Prim.Native.Nat.{ℕ, suc, _+_, _≤_, _<_}
 use native.Mathlib.Omega.{arith}
 use lib.ListN.{length, take, drop, getD, set}
 use lib.Seq.{set-split, take-suc}
-use Rattle.model.specs.Lists.{del, sum, same, All}
+use Rattle.model.specs.Basics.{del, sum, same, All}
 use Rattle.model.specs.Tree.{Entry, Tree, noEntry, noNode, times}
-use Rattle.model.specs.Standing.{numberOf, Standing}
+use Rattle.model.specs.Standing.{pageNumber, Standing}
 use Rattle.model.specs.Insert.{cutLeft, cutRight}
 use Rattle.model.specs.Mend.{move, join, nodeAt, pair, mend}
 use Rattle.page.specs.declared.Change.{Change}
 use Rattle.lend.specs.Pages.{least, glued, MovesIn, pageIn}
 use Rattle.tree.specs.Remove.{Joined}
 use Rattle.model.proofs.Cases.{same-self, same-zero}
-use Rattle.model.proofs.Lists.{split-two, all-append, all-take, all-drop, map-del}
+use Rattle.model.proofs.Basics.{split-two, all-append, all-take, all-drop, map-del}
 use Rattle.model.proofs.Sums.{sum-append}
 use Rattle.model.proofs.Standing.{all-standing}
 use Rattle.tree.proofs.Saying.{Says, says-holds, says-glue, says-left, says-right, root-holds, root-below, root-says, child-stands}
@@ -68,24 +68,24 @@ module _ (w : List ℕ) (h : ℕ) (t : Tree (suc (suc h))) (stands : Standing le
   right-stands : Standing least (pageIn w) (suc h) (nodeAt t (suc j))
   right-stands = child-stands w (suc h) t stands forks (suc j) inside
 
-  glued-says : Says h (numberOf h) (glued w (t .page) j ((nodeAt t j) .page) ((nodeAt t (suc j)) .page)) (pair t j)
+  glued-says : Says h (pageNumber h) (glued w (t .page) j ((nodeAt t j) .page) ((nodeAt t (suc j)) .page)) (pair t j)
   glued-says =
-      says-glue h (numberOf h) (root-says w h (nodeAt t j) left-stands)
+      says-glue h (pageNumber h) (root-says w h (nodeAt t j) left-stands)
       (ap (λ (es : List Entry). getD es j noEntry) (root-holds w (suc h) t stands .own))
       (root-says w h (nodeAt t (suc j)) right-stands)
 
   -- the tree with others for the two, by page numbers
   numbers-two : (x y : Tree (suc h)) → x .page ≡ (nodeAt t j) .page → y .page ≡ (nodeAt t (suc j)) .page
-      → map (numberOf (suc h)) (t .children) ≡ map (numberOf (suc h)) (take j (t .children) ++ x ∷ y ∷ drop (suc (suc j)) (t .children))
+      → map (pageNumber (suc h)) (t .children) ≡ map (pageNumber (suc h)) (take j (t .children) ++ x ∷ y ∷ drop (suc (suc j)) (t .children))
   numbers-two x y ex ey =
-      ap (map (numberOf (suc h))) (split-two (t .children) j noNode (omega arith))
+      ap (map (pageNumber (suc h))) (split-two (t .children) j noNode (omega arith))
       ∙ simp (map-append, ex, ey)
 
   -- with one for the two
   numbers-one : (x : Tree (suc h)) → x .page ≡ (nodeAt t j) .page
-      → map (numberOf (suc h)) (del (suc j) (t .children)) ≡ map (numberOf (suc h)) (take j (t .children) ++ x ∷ drop (suc (suc j)) (t .children))
+      → map (pageNumber (suc h)) (del (suc j) (t .children)) ≡ map (pageNumber (suc h)) (take j (t .children) ++ x ∷ drop (suc (suc j)) (t .children))
   numbers-one x e =
-      ap (λ (l : List (Tree (suc h))). map (numberOf (suc h)) (l ++ drop (suc (suc j)) (t .children))) (take-suc (t .children) j noNode (omega arith))
+      ap (λ (l : List (Tree (suc h))). map (pageNumber (suc h)) (l ++ drop (suc (suc j)) (t .children))) (take-suc (t .children) j noNode (omega arith))
       ∙ simp (append-assoc, map-append, e)
 
   -- all that hangs around and below the two
@@ -132,12 +132,12 @@ module _ (w : List ℕ) (h : ℕ) (t : Tree (suc (suc h))) (stands : Standing le
         },
         all-append (Standing least (pageIn w′) (suc h)) (take j (t .children)) (x ∷ y ∷ drop (suc (suc j)) (t .children)) (before-stands w′ kept) (
           (
-            says-holds h (numberOf h) (says-left h (numberOf h) n glued-says) (rw (root-holds w h l left-stands .height) at (m .left refl)),
+            says-holds h (pageNumber h) (says-left h (pageNumber h) n glued-says) (rw (root-holds w h l left-stands .height) at (m .left refl)),
             all-take (Standing least (pageIn w′) h) (suc n) ((pair t j) .children) under,
           ),
           (
             (
-              says-holds h (numberOf h) (says-right h (numberOf h) (r .page) n glued-says) (rw (root-holds w h r right-stands .height) at (m .right refl)),
+              says-holds h (pageNumber h) (says-right h (pageNumber h) (r .page) n glued-says) (rw (root-holds w h r right-stands .height) at (m .right refl)),
               all-drop (Standing least (pageIn w′) h) (suc n) ((pair t j) .children) under,
             ),
             after-stands w′ kept,
@@ -158,10 +158,10 @@ module _ (w : List ℕ) (h : ℕ) (t : Tree (suc (suc h))) (stands : Standing le
         record {
           height = top .height;
           own = top .own ∙ ap (del j) (root .own);
-          children = λ p. top .children p ∙ ap (del (suc j)) (root .children p) ∙ sym (map-del (numberOf (suc h)) (suc j) (t .children)) ∙ numbers-one (pair t j) refl;
+          children = λ p. top .children p ∙ ap (del (suc j)) (root .children p) ∙ sym (map-del (pageNumber (suc h)) (suc j) (t .children)) ∙ numbers-one (pair t j) refl;
         },
         all-append (Standing least (pageIn w′) (suc h)) (take j (t .children)) (pair t j ∷ drop (suc (suc j)) (t .children)) (before-stands w′ kept) (
-          (says-holds h (numberOf h) glued-says (rw (root-holds w h l left-stands .height) at (m .left)), under-stands w′ kept),
+          (says-holds h (pageNumber h) glued-says (rw (root-holds w h l left-stands .height) at (m .left)), under-stands w′ kept),
           after-stands w′ kept,
         ),
       )

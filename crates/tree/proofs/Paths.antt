@@ -1,4 +1,5 @@
--- The path of a gap as it is lent: its front, what stands from a place on, and what is behind its first place. The first page is the root's, and the rest is the path in the child.
+-- The path of a gap as it is lent: its front, what stands from a place on, and what is behind its first place. The
+-- first page is the root's, and the rest is the path in the child.
 -- Assumes nothing.
 use mathlib.Core.Path.{_≡_, ap, _∙_, refl}
 use mathlib.Core.List.{List, _∷_, [], _++_, append-nil}
@@ -7,12 +8,13 @@ use native.Mathlib.Omega.{arith}
 use lib.ListN.{length, take, drop, getD, length-take, length-drop, set, length-set, take-append-drop}
 use lib.Seq.{take-all, drop-length, take-length, drop-drop, getD-drop}
 use Rattle.model.specs.Tree.{Tree}
-use Rattle.model.specs.Standing.{numberOf}
-use Rattle.model.specs.Gap.{slotAt, restAt, childAt, gapPages, gapSlots}
-use Rattle.page.specs.Runs.{part, put}
+use Rattle.model.specs.Standing.{pageNumber}
+use Rattle.model.specs.Gap.{slotAt, restAt, childAt}
+use Rattle.model.specs.Path.{gapPages, gapSlots}
+use Rattle.page.specs.Runs.{part, withRun}
 use Rattle.lend.specs.Pages.{most, Inside}
 use Rattle.tree.specs.Sits.{PathIn, PathOf}
-use Rattle.model.proofs.Lists.{all-at, all-drop}
+use Rattle.model.proofs.Basics.{all-at, all-drop}
 
 module _ {A : Type 0} where
   -- from place i on, as it is lent
@@ -21,7 +23,7 @@ module _ {A : Type 0} where
 
   -- with ys from place i on, as it comes back
   abbrev pub fromBack : ℕ → List A → List A → List A
-  fromBack i l ys = put i (length l - i) ys l
+  fromBack i l ys = withRun i (length l - i) ys l
 
   pub from-drop : (i : ℕ) (l : List A) → from i l ≡ drop i l
   from-drop i l = take-all (length l - i) (drop i l) (simp length-drop (omega arith))
@@ -87,7 +89,7 @@ module _ (w ps ss : List ℕ) (path : PathIn w ps ss) where
 
 -- ---- of a tree's gap
 
-pub first-page : (h : ℕ) (t : Tree h) (g : ℕ) {ps : List ℕ} → 0 < h → ps ≡ gapPages h t g → getD ps 0 0 ≡ numberOf h t
+pub first-page : (h : ℕ) (t : Tree h) (g : ℕ) {ps : List ℕ} → 0 < h → ps ≡ gapPages h t g → getD ps 0 0 ≡ pageNumber h t
 unfolding gapPages
 first-page zero t g l e = absurd (omega arith)
 first-page (suc h) t g l e = ap (λ (ps : List ℕ). getD ps 0 0) e

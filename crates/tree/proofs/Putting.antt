@@ -14,7 +14,7 @@ use Rattle.model.specs.Layout.{pagesIn, today}
 use Rattle.model.specs.Tree.{Entry}
 use Rattle.model.specs.Page.{countOf}
 use Rattle.pagemap.specs.declared.Lowest.the-variants as lowest
-use Rattle.pagemap.specs.Lowest.{firstOf, took}
+use Rattle.pagemap.specs.Lowest.{lowestOf, took}
 use Rattle.page.specs.declared.Change.{Change}
 use Rattle.page.specs.declared.Parting.the-variants as parting
 use Rattle.page.specs.Node.{more, wider}
@@ -42,7 +42,7 @@ module _ (w : List ℕ) (p slot : ℕ) (e : Entry) (child : ℕ) where
       }
 
   -- the page is full, and no page is free
-  pub puts-none : {w′ : List ℕ} → most ≤ countOf (pageIn w p) → firstOf (freesIn w) ≡ lowest.None → MapBecomes (mapIn w) w w′ → Puts p slot e child w w′ up.Whole
+  pub puts-none : {w′ : List ℕ} → most ≤ countOf (pageIn w p) → lowestOf (freesIn w) ≡ lowest.None → MapBecomes (mapIn w) w w′ → Puts p slot e child w w′ up.Whole
   puts-none full none c = record {
     long = c .keeps .long;
     head = c .keeps .head;
@@ -51,7 +51,7 @@ module _ (w : List ℕ) (p slot : ℕ) (e : Entry) (child : ℕ) where
   }
 
   -- the page is full, and page q is taken
-  module _ {w₁ : List ℕ} (q : ℕ) (full : most ≤ countOf (pageIn w p)) (free : firstOf (freesIn w) ≡ lowest.Page q)
+  module _ {w₁ : List ℕ} (q : ℕ) (full : most ≤ countOf (pageIn w p)) (free : lowestOf (freesIn w) ≡ lowest.Page q)
       (c : MapBecomes (took (mapIn w) (lowest.Page q)) w w₁) where
     pub puts-inside : Sized w → Inside q w₁
     puts-inside z =

@@ -9,15 +9,16 @@ use Prim.Native.Nat.{ℕ, zero, suc, _+_, _-_, _/_, _≤_, _<_}
 use native.Mathlib.Omega.{arith}
 use lib.ListN.{length, take, getD, set, length-set}
 use borrow.Author.Tests.{le-leb, lt-leb}
-use Rattle.model.specs.Lists.{All, sum, same, del}
+use Rattle.model.specs.Basics.{All, sum, same, del}
 use Rattle.model.specs.Layout.{headWords, pagesIn, word, today}
 use Rattle.model.specs.Head.{countWord, levelsWord, headed}
 use Rattle.model.specs.PageMap.{bitAt}
 use Rattle.model.specs.Tree.{entries, Entry, noEntry, noTree, Tree, held, meets, times, size}
 use Rattle.model.specs.Page.{countOf}
-use Rattle.model.specs.Standing.{rootOf, numberOf, Standing}
+use Rattle.model.specs.Standing.{rootOf, pageNumber, Standing}
 use Rattle.model.specs.Gap.{child}
-use Rattle.model.specs.Remove.{removeAt, freedAt, collapse, removeIn, remove}
+use Rattle.model.specs.Remove.{removeAt, collapse, removeIn, remove}
+use Rattle.model.specs.Freed.{freedAt}
 use Rattle.model.specs.Pool.{heldBy, poolOf}
 use Rattle.model.specs.Sound.{Sound}
 use Rattle.page.specs.declared.Change.the-variants as change
@@ -27,7 +28,7 @@ use Rattle.tree.specs.declared.remove.Gone.{Gone}
 use Rattle.tree.specs.Sits.{PathOf, Sits, AtEntry}
 use Rattle.tree.specs.Remove.{nearIn, RemovesBelow, CanRemove, Lowered, Lowers, Removes}
 use Rattle.model.proofs.Cases.{contrary, either-le, never}
-use Rattle.model.proofs.Lists.{all-at, length-del, del-before, front-word}
+use Rattle.model.proofs.Basics.{all-at, length-del, del-before, front-word}
 use Rattle.model.proofs.Sums.{sum-single}
 use Rattle.model.proofs.PageMap.{bitAt-lt}
 use Rattle.model.proofs.Head.{head-facts}
@@ -54,7 +55,7 @@ lower-to : (w w′ : List ℕ) (h : ℕ) (t : Tree (suc h)) → Standing least (
 lower-to w w′ zero t stands forks inside none l = l .empties none refl
 lower-to w w′ (suc h) t stands forks inside none l =
     let e : suc (suc h) - 1 ≡ suc h = omega arith in
-    rw e at (l .lowers none (omega arith) (numberOf (suc h) (child (suc h) t 0)) (child-found w (suc h) t stands forks 0 (omega arith) (omega arith) (omega arith) inside))
+    rw e at (l .lowers none (omega arith) (pageNumber (suc h) (child (suc h) t 0)) (child-found w (suc h) t stands forks 0 (omega arith) (omega arith) (omega arith) inside))
 
 module _ (w₁ w₂ : List ℕ) (h : ℕ) (t : Tree (suc h)) (stands : Standing least (pageIn w₁) (suc h) t) (forks : length (t .children) ≡ suc (length (t .own)))
     (inside : (q : ℕ) → 0 < times q (suc h) t → q < pagesIn today (length w₁)) (lowers : Lowers (t .page) (suc h) w₁ w₂) where

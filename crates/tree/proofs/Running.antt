@@ -14,7 +14,8 @@ use borrow.Author.Tests.{le-leb, lt-leb, eq-eqb, ne-eqb}
 use Rattle.model.specs.Layout.{mostEntries}
 use Rattle.model.specs.Tree.{Tree, size}
 use Rattle.model.specs.Page.{countOf}
-use Rattle.model.specs.Gap.{gapPages, restAt, childAt}
+use Rattle.model.specs.Gap.{restAt, childAt}
+use Rattle.model.specs.Path.{gapPages}
 use Rattle.model.specs.Insert.{onward, run, needed}
 use Rattle.lend.specs.Pages.{least, most, pageIn}
 use Rattle.tree.specs.Sits.{Sits}

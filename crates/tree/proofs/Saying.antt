@@ -8,18 +8,18 @@ use Prim.Native.Nat.{ℕ, zero, suc, _≤_, _<_}
 use native.Mathlib.Omega.{arith}
 use lib.ListN.{length, take, drop, getD}
 use borrow.Author.Tests.{le-leb, lt-ltb}
-use Rattle.model.specs.Lists.{All}
+use Rattle.model.specs.Basics.{All}
 use Rattle.model.specs.Layout.{pagesIn, today}
 use Rattle.model.specs.Tree.{Entry, Node, Tree, noTree, times}
-use Rattle.model.specs.Page.{countOf, childIn, Holds}
-use Rattle.model.specs.Standing.{mapNode, numberOf, Standing}
+use Rattle.model.specs.Page.{countOf, childIn}
+use Rattle.model.specs.Standing.{mapNode, pageNumber, Standing, Holds}
 use Rattle.model.specs.Gap.{child}
 use Rattle.model.specs.Insert.{cutLeft, cutRight}
 use Rattle.model.specs.Mend.{glue}
 use Rattle.lend.specs.Pages.{least, most, nodeIn, pageIn}
 use Rattle.tree.specs.declared.search.Below.the-variants as below
 use Rattle.tree.specs.Search.{belowOf}
-use Rattle.model.proofs.Lists.{all-at, map-take, map-drop, getD-map}
+use Rattle.model.proofs.Basics.{all-at, map-take, map-drop, getD-map}
 use Rattle.model.proofs.Gap.{times-page, times-child}
 use Rattle.page.proofs.Pages.{holds-count}
 use Rattle.lend.proofs.Lent.{child-at}
@@ -49,12 +49,12 @@ module _ {S : Type 0} (h : ℕ) (f : S → ℕ) where
 -- ---- a tree that stands in the pool
 
 -- the root's page is one of its pages
-pub root-met : (h : ℕ) (t : Tree h) → 0 < h → 0 < times (numberOf h t) h t
+pub root-met : (h : ℕ) (t : Tree h) → 0 < h → 0 < times (pageNumber h t) h t
 root-met zero t l = absurd (omega arith)
 root-met (suc h) t l = times-page h t
 
 module _ (w : List ℕ) (h : ℕ) (t : Tree (suc h)) (stands : Standing least (pageIn w) (suc h) t) where
-  pub root-holds : Holds most h (mapNode (numberOf h) t) (pageIn w (t .page))
+  pub root-holds : Holds most h (mapNode (pageNumber h) t) (pageIn w (t .page))
   unfolding Standing
   root-holds = stands .0
 
@@ -65,7 +65,7 @@ module _ (w : List ℕ) (h : ℕ) (t : Tree (suc h)) (stands : Standing least (p
   pub root-count : countOf (pageIn w (t .page)) ≡ length (t .own)
   root-count = holds-count root-holds
 
-  pub root-says : Says h (numberOf h) (nodeIn w (t .page)) t
+  pub root-says : Says h (pageNumber h) (nodeIn w (t .page)) t
   root-says = record { own = root-holds .own; children = root-holds .children }
 
   module _ (forks : length (t .children) ≡ suc (length (t .own))) (i : ℕ) (b : i ≤ length (t .own)) where
@@ -73,16 +73,16 @@ module _ (w : List ℕ) (h : ℕ) (t : Tree (suc h)) (stands : Standing least (p
     child-stands = all-at (Standing least (pageIn w) h) (t .children) i (noTree h) (omega arith) root-below
 
     -- the child's number in the page's words
-    pub child-number : 0 < h → childIn most (pageIn w (t .page)) i ≡ numberOf h (child h t i)
+    pub child-number : 0 < h → childIn most (pageIn w (t .page)) i ≡ pageNumber h (child h t i)
     child-number l =
         child-at (pageIn w (t .page)) i (omega (arith, root-count))
         ∙ ap (λ (cs : List ℕ). getD cs i 0) (root-holds .children l)
-        ∙ getD-map (numberOf h) (t .children) i (noTree h) 0 (omega arith)
+        ∙ getD-map (pageNumber h) (t .children) i (noTree h) 0 (omega arith)
 
     -- and it is answered
-    pub child-found : 0 < h → i ≤ most → ((q : ℕ) → 0 < times q (suc h) t → q < pagesIn today (length w)) → belowOf w (t .page) i ≡ below.Page (numberOf h (child h t i))
+    pub child-found : 0 < h → i ≤ most → ((q : ℕ) → 0 < times q (suc h) t → q < pagesIn today (length w)) → belowOf w (t .page) i ≡ below.Page (pageNumber h (child h t i))
     unfolding belowOf
     child-found l few inside =
-        let c : ℕ = numberOf h (child h t i) in
+        let c : ℕ = pageNumber h (child h t i) in
         let lies : c < pagesIn today (length w) = inside c (omega (arith, root-met h (child h t i) l, times-child c h t i (omega arith))) in
         rw (child-number l, le-leb i most few, lt-ltb c (pagesIn today (length w)) lies)

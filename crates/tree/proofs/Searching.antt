@@ -12,13 +12,15 @@ use native.Mathlib.Omega.{arith}
 use lib.Dec.{ltb, eqb}
 use lib.ListN.{length, getD}
 use borrow.Author.Tests.{le-leb, lt-leb, lt-ltb, le-ltb, eq-eqb, ne-eqb, leb-true}
-use Rattle.model.specs.Lists.{every}
+use Rattle.model.specs.Basics.{every}
 use Rattle.model.specs.Layout.{pagesIn, today}
 use Rattle.model.specs.Tree.{Entry, Tree, noEntry}
 use Rattle.model.specs.Page.{countOf, heightOf, entryIn, childIn, entriesOf}
-use Rattle.model.specs.Standing.{numberOf}
+use Rattle.model.specs.Standing.{pageNumber}
 use Rattle.model.specs.Entries.{gapOf, gapBefore}
-use Rattle.model.specs.Gap.{child, at, Found, deeper, find}
+use Rattle.model.specs.Gap.{child}
+use Rattle.model.specs.Search.{at, Found}
+use Rattle.model.specs.Path.{deeper, find}
 use Rattle.page.specs.declared.Place.{Place}
 use Rattle.page.specs.declared.Place.the-variants as place
 use Rattle.page.specs.declared.Slot.the-variants as slot
@@ -29,9 +31,9 @@ use Rattle.tree.specs.declared.search.Below.the-variants as below
 use Rattle.tree.specs.declared.search.Got.{Got}
 use Rattle.tree.specs.declared.search.Got.the-variants as got
 use Rattle.tree.specs.Sits.{Sits}
-use Rattle.tree.specs.Search.{belowOf, placeAt, slotBy, gotBy, gotOf, GetsBelow}
+use Rattle.tree.specs.Search.{belowOf, placeAt, slotBy, gotBy, gotFound, GetsBelow}
 use Rattle.model.proofs.Cases.{either, either-le, either-lt, never}
-use Rattle.model.proofs.Lists.{every-true}
+use Rattle.model.proofs.Basics.{every-true}
 use Rattle.model.proofs.Entries.{gap-le, at-true, gap-start, gap-end}
 use Rattle.model.proofs.Read.{length-own}
 use Rattle.page.proofs.Finding.{no-slot, one-slot}
@@ -183,7 +185,7 @@ sits-answers : (w : List ℕ) (low h : ℕ) (t : Tree (suc h)) (p k : ℕ) → S
 sits-answers w low h t p k s q =
     rw (← q, sits-place w low h t s k) (either (at k (t .own) (gapBefore k (t .own))) (λ y. rw y (refl, y)) (λ n. rw n (refl, n)))
 
-got-deeper : (above : ℕ) (f : Found) → gotOf (above + 1) f ≡ gotOf above (deeper f)
+got-deeper : (above : ℕ) (f : Found) → gotFound (above + 1) f ≡ gotFound above (deeper f)
 got-deeper above f = go (f .value)
   where
     go : (v : Option ℕ) → gotBy (above + 1) v (f .read) ≡ gotBy above v (suc (f .read))
@@ -207,7 +209,7 @@ find-none k (suc h) t z = absurd (omega arith)
 
 -- where the page answers a gap, the child that the tree's search goes on to is the one that its words name there
 gap-below : (w : List ℕ) (p h k i : ℕ) → placeAt w p h k ≡ place.Gap i → 0 < h → (low : ℕ) (t : Tree (suc h)) → Sits w low (suc h) t → t .page ≡ p
-    → belowOf w p i ≡ below.Page (numberOf h (child h t (gapBefore k (t .own))))
+    → belowOf w p i ≡ below.Page (pageNumber h (child h t (gapBefore k (t .own))))
 gap-below w p h k i e l low t s q =
     let says : (gapBefore k (t .own) ≡ i) × (at k (t .own) (gapBefore k (t .own)) ≡ false) = subst (Answers k (t .own)) e (sits-answers w low h t p k s q) in
     rw (← q, ← (says .0)) (sits-below w low h t s l (gapBefore k (t .own)) (gap-le (λ x. ltb x k) (t .own)))
@@ -223,7 +225,7 @@ module _ (w : List ℕ) (p h k above : ℕ) where
       let own : getD (entriesOf most (pageIn w p)) i noEntry ≡ getD (t .own) (gapBefore k (t .own)) noEntry = rw (← q, sits-own w low h t s, says .0) in
       let value : v ≡ getD (t .own) (gapBefore k (t .own)) noEntry .value =
       a ∙ ap (λ (x : Entry). x .value) (own-at (pageIn w p) i (rw (← q) (omega (arith, root-count w h t (s .stands)))) ∙ own) in
-      ap (λ (x : ℕ). got.Value x (above + 1)) value ∙ ap (gotOf above) (sym (find-here k h t (says .1)))
+      ap (λ (x : ℕ). got.Value x (above + 1)) value ∙ ap (gotFound above) (sym (find-here k h t (says .1)))
 
   -- a gap of a leaf; and a gap with no child there
   module _ (i : ℕ) (e : placeAt w p h k ≡ place.Gap i) where
@@ -246,4 +248,4 @@ get-down w p (suc h) n k above i c {r} d e b g low t s q =
     let n-is-h : n ≡ h = omega arith in
     subst (λ n. GetsBelow w c n k (above + 1) r) n-is-h g least u (sits-child w low (suc h) t s (gapBefore k (t .own)) (gap-le (λ x. ltb x k) (t .own))) page
     ∙ got-deeper above (find k (suc h) u)
-    ∙ ap (gotOf above) (sym (find-down k (suc h) t (says .1)))
+    ∙ ap (gotFound above) (sym (find-down k (suc h) t (says .1)))

@@ -10,9 +10,9 @@ use lib.ListN.{length, take, drop, getD, set, length-drop, take-append-drop}
 use lib.Seq.{drop-cons, set-split, drop-set-lt, take-suc-set}
 use Rattle.model.specs.Head.{rootWord, levelsWord}
 use Rattle.model.specs.Tree.{Tree, entries, Rising, held, Formed}
-use Rattle.model.specs.Standing.{rootOf, numberOf}
+use Rattle.model.specs.Standing.{rootOf, pageNumber}
 use Rattle.model.specs.Entries.{lookup, gapOf}
-use Rattle.model.specs.Gap.{gapPages, gapSlots, seekPages, seekSlots, find}
+use Rattle.model.specs.Path.{gapPages, gapSlots, seekPages, seekSlots, find}
 use Rattle.model.specs.Pool.{heldBy, wholeOf, poolOf}
 use Rattle.model.specs.Sound.{Sound}
 use Rattle.model.specs.MapCalls.{pagesRead}
@@ -24,7 +24,7 @@ use Rattle.tree.specs.declared.search.Got.{Got}
 use Rattle.tree.specs.declared.search.Got.the-variants as got
 use Rattle.page.specs.declared.Slot.the-variants as slot
 use Rattle.tree.specs.Sits.{PathIn, PathOf, Sits, From}
-use Rattle.tree.specs.Search.{belowOf, slotBy, aimed, gotOf, GetsBelow, Gets, SeeksBelow, Seeks}
+use Rattle.tree.specs.Search.{belowOf, slotBy, aimed, gotFound, GetsBelow, Gets, SeeksBelow, Seeks}
 use Rattle.model.proofs.Cases.{contrary, never}
 use Rattle.model.proofs.Entries.{Falls, falls-below, falls-up-to, gap-le}
 use Rattle.model.proofs.Search.{seekChild, seek-rising, seek-pages, seek-slots, find-held}
@@ -74,7 +74,7 @@ module _ (w : List ℕ) (p : ℕ) (aim : Aim) where
 
   module _ (n i : ℕ) (e : slotBy w p n (aimed aim) ≡ slot.At i) where
     -- the child, as the page's words have it, is the tree's
-    child-is : 0 < n → From w p (suc n) (λ h t. belowOf w p i ≡ below.Page (numberOf h (seekChild (aimed aim) h t)))
+    child-is : 0 < n → From w p (suc n) (λ h t. belowOf w p i ≡ below.Page (pageNumber h (seekChild (aimed aim) h t)))
     child-is l low h t k s r q =
         rw (← q, ← (slot-is n i e low h t k s r q)) (sits-below w low h t s (omega arith) (gapOf (aimed aim) (t .own)) (gap-le (aimed aim) (t .own)))
 
@@ -175,7 +175,7 @@ module _ (w : List ℕ) (p : ℕ) (aim : Aim) (ps₀ ss₀ : List ℕ) (at i : �
 -- ---- a whole pool
 
 -- the root's page, by the head's word
-sound-number : (w : List ℕ) → Sound w → numberOf (poolOf w .whole .levels) (poolOf w .whole .tree) ≡ rootWord w - 1
+sound-number : (w : List ℕ) → Sound w → pageNumber (poolOf w .whole .levels) (poolOf w .whole .tree) ≡ rootWord w - 1
 sound-number w s =
     let root : rootWord w ≡ rootOf (poolOf w .whole .levels) (poolOf w .whole .tree) = ap (λ (l : List ℕ). getD l 3 0) (sound-written w s .head) in
     let less : pred (rootWord w) ≡ rootWord w - 1 = omega arith in
@@ -196,8 +196,8 @@ unfolding entries
 no-levels zero t z = refl
 no-levels (suc h) t z = absurd (omega arith)
 
-get-tree : (w : List ℕ) (k low h : ℕ) (t : Tree h) (n p : ℕ) {r : Got} → suc n ≡ h → Sits w low h t → numberOf h t ≡ p
-    → GetsBelow w p n k 0 r → r ≡ gotOf 0 (find k h t)
+get-tree : (w : List ℕ) (k low h : ℕ) (t : Tree h) (n p : ℕ) {r : Got} → suc n ≡ h → Sits w low h t → pageNumber h t ≡ p
+    → GetsBelow w p n k 0 r → r ≡ gotFound 0 (find k h t)
 get-tree w k low zero t n p d s q g = absurd (omega arith)
 get-tree w k low (suc h) t n p {r} d s q g = let n-is-h : n ≡ h = omega arith in subst (λ n. GetsBelow w p n k 0 r) n-is-h g low t s q
 
@@ -209,7 +209,7 @@ pub get-whole : (w : List ℕ) (k n p : ℕ) {r : Got} → suc n ≡ levelsWord 
 unfolding held pagesRead Formed
 get-whole w k n p d q g s =
     get-tree w k 1 (poolOf w .whole .levels) (poolOf w .whole .tree) n p (d ∙ sym (sound-levels w)) (sound-sits w s) (sound-number w s ∙ q) g
-    ∙ ap (gotOf 0) (find-held k least 1 (poolOf w .whole .levels) (poolOf w .whole .tree) (sound-sits w s .shaped) (sound-right w s .rising))
+    ∙ ap (gotFound 0) (find-held k least 1 (poolOf w .whole .levels) (poolOf w .whole .tree) (sound-sits w s .shaped) (sound-right w s .rising))
 
 path-none : (h : ℕ) (t : Tree h) (g : ℕ) → h ≡ 0 → PathOf h t g [] []
 unfolding gapPages gapSlots
@@ -228,7 +228,7 @@ seek-none w aim [] (y ∷ ss) z a b = absurd (omega arith)
 seek-none w aim (x ∷ ps) ss z a b = absurd (omega arith)
 
 seek-tree : (w : List ℕ) (p : ℕ) (aim : Aim) (low h : ℕ) (t : Tree h) {ps ss ps′ ss′ : List ℕ} {r : Bool} → 0 < h → length ps ≡ h
-    → Sits w low h t → Rising (entries h t) → numberOf h t ≡ p → SeeksBelow w p aim ps ss ps′ ss′ r → (r ≡ true) × PathOf h t (gapOf (aimed aim) (entries h t)) ps′ ss′
+    → Sits w low h t → Rising (entries h t) → pageNumber h t ≡ p → SeeksBelow w p aim ps ss ps′ ss′ r → (r ≡ true) × PathOf h t (gapOf (aimed aim) (entries h t)) ps′ ss′
 seek-tree w p aim low zero t l k s r q g = absurd (omega arith)
 seek-tree w p aim low (suc h) t l k s r q g = (
   g .sound low h t k s r q,

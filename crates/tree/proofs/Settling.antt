@@ -9,7 +9,8 @@ use native.Mathlib.Omega.{arith}
 use lib.ListN.{length, drop, getD, length-drop}
 use Rattle.model.specs.Tree.{Tree, size, Shaped}
 use Rattle.model.specs.Page.{countOf}
-use Rattle.model.specs.Gap.{slotAt, childAt, gapPages, gapSlots}
+use Rattle.model.specs.Gap.{slotAt, childAt}
+use Rattle.model.specs.Path.{gapPages, gapSlots}
 use Rattle.lend.specs.Pages.{least, pageIn}
 use Rattle.tree.specs.declared.remove.Gone.{Gone}
 use Rattle.tree.specs.declared.remove.Gone.the-variants as gone

@@ -12,14 +12,16 @@ use lib.Dec.{ltb}
 use lib.ListN.{length, take, drop, getD, set, length-set, length-drop}
 use lib.Seq.{set-out, map-set-same}
 use borrow.Author.Tests.{le-leb, lt-leb, lt-ltb, le-ltb}
-use Rattle.model.specs.Lists.{sum, All, final, same}
+use Rattle.model.specs.Basics.{sum, All, final, same}
 use Rattle.model.specs.PageMap.{bitAt}
 use Rattle.model.specs.Tree.{Entry, Tree, noEntry, noNode, noTree, entries, size, times, Shaped}
-use Rattle.model.specs.Page.{countOf, heightOf, entriesOf, childrenOf, Holds}
-use Rattle.model.specs.Standing.{mapNode, numberOf, Standing}
-use Rattle.model.specs.Gap.{slotAt, restAt, child, childAt, gapPages, gapSlots}
+use Rattle.model.specs.Page.{countOf, heightOf, entriesOf, childrenOf}
+use Rattle.model.specs.Standing.{mapNode, pageNumber, Standing, Holds}
+use Rattle.model.specs.Gap.{slotAt, restAt, child, childAt}
+use Rattle.model.specs.Path.{gapPages, gapSlots}
 use Rattle.model.specs.Remove as removal
-use Rattle.model.specs.Remove.{step, stepFreed, removeAt, freedAt}
+use Rattle.model.specs.Remove.{step, removeAt}
+use Rattle.model.specs.Freed.{stepFreed, freedAt}
 use Rattle.lend.specs.Pages.{least, most, pageIn, mapIn}
 use Rattle.tree.specs.declared.remove.Gone.{Gone}
 use Rattle.tree.specs.declared.remove.Gone.the-variants as gone
@@ -27,7 +29,7 @@ use Rattle.tree.specs.Sits.{PathOf, Sits}
 use Rattle.tree.specs.Insert.{Marked}
 use Rattle.tree.specs.Remove.{near, Mends, Mended, TakesOut, inheritedBy, Inherits, goneBy, goneOf, nearPages, Shrinks, RemovesBelow}
 use Rattle.model.proofs.Cases.{either-le, either-lt, same-self, same-zero}
-use Rattle.model.proofs.Lists.{all-append, all-left, all-right, all-take, all-drop, all-of, all-any, all-map, all-image, map-take, map-drop}
+use Rattle.model.proofs.Basics.{all-append, all-left, all-right, all-take, all-drop, all-of, all-any, all-map, all-image, map-take, map-drop}
 use Rattle.model.proofs.Sums.{sum-at, sum-append}
 use Rattle.model.proofs.Gap.{way-down, child-shaped, size-some, leaf-entries, times-page, times-child, leaf-slot}
 use Rattle.model.proofs.Search.{path-long}
@@ -42,8 +44,8 @@ use Rattle.tree.proofs.Paths.{behind, first-page, first-slot, path-behi
 
 -- ---- the pages that a removal may change are pages of the tree
 
-children-met : (h : ℕ) (t : Tree (suc (suc h))) → All (λ c. 0 < times (numberOf (suc h) c) (suc (suc h)) t) (t .children)
-children-met h t = all-of (λ c. 0 < times (numberOf (suc h) c) (suc (suc h)) t) (t .children) noNode (λ i b.
+children-met : (h : ℕ) (t : Tree (suc (suc h))) → All (λ c. 0 < times (pageNumber (suc h) c) (suc (suc h)) t) (t .children)
+children-met h t = all-of (λ c. 0 < times (pageNumber (suc h) c) (suc (suc h)) t) (t .children) noNode (λ i b.
     let c = child (suc h) t i in omega (arith, times-child (c .page) (suc h) t i b, times-page h c))
 
 pub near-met : (low h : ℕ) (t : Tree (suc h)) (g : ℕ) → Shaped least low (suc h) t → g ≤ size (suc h) t → All (λ q. 0 < times q (suc h) t) (nearPages h t g)
@@ -55,10 +57,10 @@ near-met low (suc h) t g s b =
     let o = restAt (suc h) t g in
     let way = way-down least low (suc h) t g s b in
     let met : ℕ → Type 0 = λ q. 0 < times q (suc (suc h)) t in
-    let met-child : Tree (suc h) → Type 0 = λ c. 0 < times (numberOf (suc h) c) (suc (suc h)) t in (
+    let met-child : Tree (suc h) → Type 0 = λ c. 0 < times (pageNumber (suc h) c) (suc (suc h)) t in (
       times-page (suc h) t,
-      all-append met (map (numberOf (suc h)) (near i (t .children))) (nearPages h x o)
-          (all-image (numberOf (suc h)) met (near i (t .children))
+      all-append met (map (pageNumber (suc h)) (near i (t .children))) (nearPages h x o)
+          (all-image (pageNumber (suc h)) met (near i (t .children))
           (all-drop met-child (pred i) (take (suc (suc i)) (t .children)) (all-take met-child (suc (suc i)) (t .children) (children-met h t))))
           (all-map (λ q. 0 < times q (suc h) x) met (nearPages h x o) (λ q l. omega (arith, times-child q (suc h) t i (way .inside)))
           (near-met least h x o (child-shaped least low (suc h) t g s b) (way .fits))),
@@ -132,21 +134,21 @@ module _ (w w₁ : List ℕ) (low h : ℕ) (t : Tree (suc (suc h))) (g : ℕ) (r
     kept-other q z = heir .only .others q (same-zero q (t .page) z, tt)
 
     -- the words of the page
-    u-numbers : map (numberOf (suc h)) (u .children) ≡ map (numberOf (suc h)) (t .children)
-    u-numbers = map-set-same (numberOf (suc h)) (t .children) i c noNode (remove-at-page least h x o)
+    u-numbers : map (pageNumber (suc h)) (u .children) ≡ map (pageNumber (suc h)) (t .children)
+    u-numbers = map-set-same (pageNumber (suc h)) (t .children) i c noNode (remove-at-page least h x o)
 
-    page-children : 0 < suc h → childrenOf most (pageIn w (t .page)) ≡ map (numberOf (suc h)) (u .children)
+    page-children : 0 < suc h → childrenOf most (pageIn w (t .page)) ≡ map (pageNumber (suc h)) (u .children)
     unfolding Standing
     page-children l = s .stands .0 .children l ∙ sym u-numbers
 
-    page-same : w₂ ≡ w₁ → u .own ≡ t .own → Holds most (suc h) (mapNode (numberOf (suc h)) u) (pageIn w₂ (t .page))
+    page-same : w₂ ≡ w₁ → u .own ≡ t .own → Holds most (suc h) (mapNode (pageNumber (suc h)) u) (pageIn w₂ (t .page))
     unfolding Standing
     page-same e own =
         let z : pageIn w₂ (t .page) ≡ pageIn w (t .page) = ap (λ (l : List ℕ). pageIn l (t .page)) e ∙ kept-page in
         let k = s .stands .0 in
         rw z (record { height = k .height; own = k .own ∙ sym own; children = page-children })
 
-    u-holds : Holds most (suc h) (mapNode (numberOf (suc h)) u) (pageIn w₂ (t .page))
+    u-holds : Holds most (suc h) (mapNode (pageNumber (suc h)) u) (pageIn w₂ (t .page))
     u-holds =
         let own : entriesOf most (pageIn w (t .page)) ≡ t .own = sits-own w low (suc h) t s in
         let height : heightOf (pageIn w (t .page)) ≡ suc h = sits-height w low (suc h) t s in
@@ -223,9 +225,9 @@ module _ (w w₁ : List ℕ) (low h : ℕ) (t : Tree (suc (suc h))) (g : ℕ) (r
         (λ q. omega (arith, marked q, u-times q, below .bits q, map-same q))
         (λ q l. rw long (s .inside q (omega (arith, u-times q))))
 
-    near-same : map (numberOf (suc h)) (near i (u .children)) ≡ map (numberOf (suc h)) (near i (t .children))
+    near-same : map (pageNumber (suc h)) (near i (u .children)) ≡ map (pageNumber (suc h)) (near i (t .children))
     near-same =
-        sym (map-near (numberOf (suc h)) i (u .children)) ∙ ap (near i) u-numbers ∙ map-near (numberOf (suc h)) i (t .children)
+        sym (map-near (pageNumber (suc h)) i (u .children)) ∙ ap (near i) u-numbers ∙ map-near (pageNumber (suc h)) i (t .children)
 
     pub upper-shrinks : (w₃ : List ℕ) → Mends (t .page) i w₂ w₃ → Shrinks w (suc h) t g w₃ r₂
     unfolding step stepFreed removeAt freedAt nearPages
@@ -239,7 +241,7 @@ module _ (w w₁ : List ℕ) (low h : ℕ) (t : Tree (suc (suc h))) (g : ℕ) (r
             long = mends .long ∙ heir .only .long ∙ below .touches .long;
             head = mends .head ∙ only-touches (heir .only) .head ∙ below .touches .head;
             others = λ q a.
-                let ns = map (numberOf (suc h)) (near i (t .children)) in
+                let ns = map (pageNumber (suc h)) (near i (t .children)) in
                 m .touches .others q (a .0, rw near-same (all-left (λ p. q ≢ p) ns (nearPages h x o) (a .1)))
                 ∙ heir .only .others q (a .0, tt)
                 ∙ below .touches .others q (all-right (λ p. q ≢ p) ns (nearPages h x o) (a .1));

@@ -9,8 +9,9 @@ use lib.ListN.{length}
 use Rattle.model.specs.Layout.{pagesIn, today}
 use Rattle.model.specs.Tree.{Tree, size, Formed, Shaped, meets, noTree}
 use Rattle.model.specs.Page.{heightOf, entriesOf}
-use Rattle.model.specs.Standing.{numberOf}
-use Rattle.model.specs.Gap.{slotAt, restAt, child, childAt, gapPages, gapSlots}
+use Rattle.model.specs.Standing.{pageNumber}
+use Rattle.model.specs.Gap.{slotAt, restAt, child, childAt}
+use Rattle.model.specs.Path.{gapPages, gapSlots}
 use Rattle.model.specs.Pool.{poolOf}
 use Rattle.model.specs.Sound.{Sound}
 use Rattle.model.specs.Head.{geometryOf}
@@ -19,7 +20,7 @@ use Rattle.tree.specs.declared.search.Below.the-variants as below
 use Rattle.tree.specs.Sits.{PathIn, PathOf, Sits}
 use Rattle.tree.specs.Search.{belowOf}
 use Rattle.model.proofs.Cases.{either-lt}
-use Rattle.model.proofs.Lists.{all-at}
+use Rattle.model.proofs.Basics.{all-at}
 use Rattle.model.proofs.Gap.{way-down, slot-le, times-child}
 use Rattle.model.proofs.Right.{sound-right}
 use Rattle.model.proofs.Written.{sound-written}
@@ -27,8 +28,8 @@ use Rattle.lend.proofs.Lent.{page-inside}
 use Rattle.tree.proofs.Saying.{root-met, root-holds, child-stands, child-found}
 
 -- the root's page is one of the pool
-pub root-inside : (w : List ℕ) (low h : ℕ) (t : Tree h) → 0 < h → Sits w low h t → numberOf h t < pagesIn today (length w)
-root-inside w low h t l s = s .inside (numberOf h t) (root-met h t l)
+pub root-inside : (w : List ℕ) (low h : ℕ) (t : Tree h) → 0 < h → Sits w low h t → pageNumber h t < pagesIn today (length w)
+root-inside w low h t l s = s .inside (pageNumber h t) (root-met h t l)
 
 module _ (w : List ℕ) (low h : ℕ) (t : Tree (suc h)) (s : Sits w low (suc h) t) where
   pub sits-inside : Inside (t .page) w
@@ -64,7 +65,7 @@ module _ (w : List ℕ) (low h : ℕ) (t : Tree (suc h)) (s : Sits w low (suc h)
         inside = λ q met. s .inside q (omega (arith, times-child q h t i here));
       }
 
-  pub sits-below : 0 < h → (i : ℕ) → i ≤ length (t .own) → belowOf w (t .page) i ≡ below.Page (numberOf h (child h t i))
+  pub sits-below : 0 < h → (i : ℕ) → i ≤ length (t .own) → belowOf w (t .page) i ≡ below.Page (pageNumber h (child h t i))
   sits-below l i b = child-found w h t (s .stands) sits-forks i b l (omega (arith, sits-most)) (s .inside)
 
   -- the way of a gap

@@ -10,9 +10,10 @@ use lib.Dec.{ltb}
 use lib.ListN.{length, take, getD}
 use lib.Seq.{take-suc, take-all, length-take-le}
 use borrow.Author.Tests.{lt-ltb, le-ltb}
-use Rattle.model.specs.Lists.{All}
+use Rattle.model.specs.Basics.{All}
 use Rattle.model.specs.Tree.{Tree, noEntry, entries, size, Shaped}
-use Rattle.model.specs.Gap.{slotAt, restAt, child, childAt, gapPages, gapSlots}
+use Rattle.model.specs.Gap.{slotAt, restAt, child, childAt}
+use Rattle.model.specs.Path.{gapPages, gapSlots}
 use Rattle.page.specs.Page.{holdsAt}
 use Rattle.lend.specs.Pages.{least, most, Inside, pageIn}
 use Rattle.tree.specs.declared.steps.Spot.{Spot}
@@ -20,7 +21,7 @@ use Rattle.tree.specs.declared.steps.Spot.the-variants as spot
 use Rattle.tree.specs.Sits.{PathIn, Sits}
 use Rattle.tree.specs.Steps.{spotOf, spotBefore, orElse, hereAfter, hereBefore, deepest, Within, Spots, SpotAfter, SpotBefore}
 use Rattle.model.proofs.Cases.{either, either-lt, never}
-use Rattle.model.proofs.Lists.{next-some, next-none}
+use Rattle.model.proofs.Basics.{next-some, next-none}
 use Rattle.model.proofs.Gap.{way-down, child-shaped}
 use Rattle.model.proofs.Path.{slot-at-end, rest-at-end}
 use Rattle.page.proofs.Pages.{holds-facts}

@@ -10,7 +10,8 @@ use native.Mathlib.Omega.{arith}
 use lib.ListN.{length, drop, getD}
 use Rattle.model.specs.Tree.{Entry, Tree, noEntry, noTree, entries, size, Rising, Shaped}
 use Rattle.model.specs.Entries.{next, prev, forth, back, gapOf}
-use Rattle.model.specs.Gap.{slotAt, restAt, child, childAt, gapPages, gapSlots, seekPages, seekSlots}
+use Rattle.model.specs.Gap.{slotAt, restAt, child, childAt}
+use Rattle.model.specs.Path.{gapPages, gapSlots, seekPages, seekSlots}
 use Rattle.lend.specs.Pages.{least}
 use Rattle.tree.specs.declared.search.Aim.{Aim}
 use Rattle.tree.specs.declared.search.Aim.the-variants.{Start, End}
@@ -20,7 +21,7 @@ use Rattle.tree.specs.Sits.{PathIn, PathOf, Sits}
 use Rattle.tree.specs.Search.{aimed}
 use Rattle.tree.specs.Steps.{stepBy, Steps, Overs}
 use Rattle.model.proofs.Cases.{either-lt, never}
-use Rattle.model.proofs.Lists.{next-some, next-none}
+use Rattle.model.proofs.Basics.{next-some, next-none}
 use Rattle.model.proofs.Entries.{gap-start, gap-end}
 use Rattle.model.proofs.Gap.{way-down}
 use Rattle.model.proofs.Search.{child-rising, seek-pages, seek-slots, path-long}

@@ -14,9 +14,10 @@ use lib.Seq.{drop-cons}
 use borrow.Author.Tests.{lt-ltb, le-ltb}
 use Rattle.model.specs.Tree.{Entry, Tree, noEntry, entry, entries, size, Rising}
 use Rattle.model.specs.Page.{entryIn}
-use Rattle.model.specs.Standing.{numberOf}
+use Rattle.model.specs.Standing.{pageNumber}
 use Rattle.model.specs.Entries.{next, prev, forth, back}
-use Rattle.model.specs.Gap.{slotAt, restAt, child, childAt, gapPages, seekPages, seekSlots}
+use Rattle.model.specs.Gap.{slotAt, restAt, child, childAt}
+use Rattle.model.specs.Path.{gapPages, seekPages, seekSlots}
 use Rattle.page.specs.Page.{holdsAt}
 use Rattle.lend.specs.Pages.{least, most, pageIn}
 use Rattle.tree.specs.declared.search.Aim.{Aim}
@@ -74,7 +75,7 @@ module _ (w : List ℕ) (p at : ℕ) (aim : Aim) (ps ss : List ℕ) where
     exact = λ low h t l u up f. down low h t l u up f;
   }
     where
-      down : (low h : ℕ) (t : Tree h) → length ps ≡ h → Sits w low h t → Rising (entries h t) → (0 < h → belowOf w p at ≡ below.Page (numberOf h t))
+      down : (low h : ℕ) (t : Tree h) → length ps ≡ h → Sits w low h t → Rising (entries h t) → (0 < h → belowOf w p at ≡ below.Page (pageNumber h t))
           → (r ≡ true) × (ps′ ≡ seekPages (aimed aim) h t) × (ss′ ≡ seekSlots (aimed aim) h t)
       down low zero t l u up f = absurd (n l)
       down low (suc h) t l u up f =

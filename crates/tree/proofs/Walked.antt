@@ -9,16 +9,17 @@ use native.Mathlib.Omega.{arith}
 use lib.Dec.{ltb}
 use lib.ListN.{length, length-map}
 use borrow.Author.Tests.{ltb-true, leb-true, eqb-true, lt-ltb, le-leb, eq-eqb}
-use Rattle.model.specs.Lists.{All, sum, every, same}
+use Rattle.model.specs.Basics.{All, sum, every, same}
 use Rattle.model.specs.Layout.{pagesIn, today}
 use Rattle.model.specs.PageMap.{bitAt}
-use Rattle.model.specs.Tree.{Entry, Tree, weave, entries, times, Rising, Shaped, pagesBelow}
+use Rattle.model.specs.Tree.{Entry, Tree, weave, entries, times, Rising, Shaped}
 use Rattle.model.specs.Page.{countOf, heightOf, entriesOf, childrenOf, readTree, Heights}
 use Rattle.lend.specs.Pages.{least, most, pageIn, mapIn}
 use Rattle.tree.specs.declared.check.Tally.the-variants as tally
 use Rattle.tree.specs.Check.{standTests, inTurn, overTree}
+use Rattle.model.proofs.Numbers.{pagesBelow}
 use Rattle.model.proofs.Cases.{either, either-lt, either-eq, contrary, same-self, same-other}
-use Rattle.model.proofs.Lists.{all-map, all-both, all-image, every-true, every-all}
+use Rattle.model.proofs.Basics.{all-map, all-both, all-image, every-true, every-all}
 use Rattle.model.proofs.Read.{length-own, length-children}
 use Rattle.tree.proofs.Meeting.{Met, Follows, Goes, goes-map, goes-as, follows-as, turn-goes}
 

@@ -11,7 +11,7 @@ use lib.Dec.{leb, ltb}
 use lib.ListN.{length, drop, drop-of-length-le}
 use lib.Seq.{drop-cons}
 use borrow.Author.Tests.{ltb-true, lt-ltb, le-ltb, le-leb}
-use Rattle.model.specs.Lists.{every}
+use Rattle.model.specs.Basics.{every}
 use Rattle.model.specs.Layout.{firstWord, pagesIn, today}
 use Rattle.model.specs.Tree.{Entry, entry, noEntry}
 use Rattle.model.specs.Page.{countOf, childIn, entryIn, entriesOf, childrenOf}
@@ -22,7 +22,7 @@ use Rattle.tree.specs.declared.search.Below.the-variants as below
 use Rattle.tree.specs.Search.{belowOf}
 use Rattle.tree.specs.Check.{standTests, keyRises, valueFits, entryTests, overEntry, overEntryAt, inTurn, overTree, Walks}
 use Rattle.model.proofs.Cases.{either, either-lt, never}
-use Rattle.model.proofs.Lists.{getD-tab, every-true}
+use Rattle.model.proofs.Basics.{getD-tab, every-true}
 use Rattle.model.proofs.Read.{length-own, length-children}
 use Rattle.tree.proofs.Meeting.{turn-stop}
 use Rattle.tree.proofs.Walked.{over-stop}

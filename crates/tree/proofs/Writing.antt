@@ -9,11 +9,11 @@ use native.Mathlib.Omega.{arith}
 use lib.ListN.{length, take, drop, getD, set, length-set}
 use lib.Seq.{map-set-same, getD-set-same, getD-set-other}
 use borrow.Author.Tests.{lt-ltb, le-ltb}
-use Rattle.model.specs.Lists.{All, sum, same}
+use Rattle.model.specs.Basics.{All, sum, same}
 use Rattle.model.specs.Layout.{mostEntries, firstWord, word, today}
 use Rattle.model.specs.Tree.{Entry, Tree, noEntry, noTree, entries, size, times, Shaped, held, entry, Formed, meets}
-use Rattle.model.specs.Page.{countOf, heightOf, entriesOf, nodeOf, Holds, entryIn}
-use Rattle.model.specs.Standing.{rootOf, numberOf, Standing}
+use Rattle.model.specs.Page.{countOf, heightOf, entriesOf, entryIn}
+use Rattle.model.specs.Standing.{rootOf, pageNumber, Standing, nodeOf, Holds}
 use Rattle.model.specs.Gap.{slotAt, restAt, childAt}
 use Rattle.model.specs.Write.{writeAt, write}
 use Rattle.model.specs.Pool.{Pool, heldBy, poolOf}
@@ -29,7 +29,7 @@ use Rattle.tree.specs.declared.steps.Spot.the-variants as spot
 use Rattle.tree.specs.Steps.{spotOf}
 use Rattle.tree.specs.Write.{Writes}
 use Rattle.model.proofs.Cases.{either-lt, same-self, same-eq, either-eq, never}
-use Rattle.model.proofs.Lists.{all-at, front-word}
+use Rattle.model.proofs.Basics.{all-at, front-word}
 use Rattle.model.proofs.Sums.{sum-at}
 use Rattle.model.proofs.Gap.{way-down, child-shaped, located-below, located-here}
 use Rattle.model.proofs.Write.{located-own, write-held, write-meets}
@@ -138,7 +138,7 @@ module _ (m : ℕ) (pages pages′ : ℕ → List ℕ) (p s : ℕ) (e : Entry) (
         record {
           height = rw (← stay) (a .0 .height);
           own = rw (← stay) (a .0 .own);
-          children = λ l. rw (← stay, map-set-same (numberOf h) (t .children) i (writeAt h c r e) (noTree h) (ap pred (write-at-root h c r e))) (a .0 .children l);
+          children = λ l. rw (← stay, map-set-same (pageNumber h) (t .children) i (writeAt h c r e) (noTree h) (ap pred (write-at-root h c r e))) (a .0 .children l);
         },
         set-standing m pages pages′ h i (writeAt h c r e) (t .children) (L .inside)
             (λ q l. others q (λ (x : q ≡ p).

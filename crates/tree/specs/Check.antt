@@ -8,7 +8,7 @@ use mathlib.Core.List.{List, [], _∷_}
 use Prim.Native.Nat.{ℕ, zero, suc, _+_, _*_, _≤_}
 use lib.Dec.{leb, ltb, eqb}
 use lib.ListN.{length}
-use Rattle.model.specs.Lists.{every}
+use Rattle.model.specs.Basics.{every}
 use Rattle.model.specs.Layout.{pagesIn, today}
 use Rattle.model.specs.Head.{openWord, afterWord, keyWord, kindWord}
 use Rattle.model.specs.PageMap.{bitAt}

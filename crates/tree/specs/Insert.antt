@@ -7,14 +7,15 @@ use mathlib.Core.Logic.{_≢_}
 use mathlib.Core.List.{List, [], _∷_, _++_}
 use Prim.Native.Nat.{ℕ, suc, _+_, _≤_, _<_}
 use lib.ListN.{length, take, getD}
-use Rattle.model.specs.Lists.{tab, All, sumTo, same}
+use Rattle.model.specs.Basics.{tab, All, same}
+use Rattle.model.specs.Sums.{sumTo}
 use Rattle.model.specs.Layout.{headWords, pagesIn, word, today}
 use Rattle.model.specs.Head.{rootWord, levelsWord}
 use Rattle.model.specs.PageMap.{bitAt}
 use Rattle.model.specs.Tree.{Entry, Node, Tree, size, times, noEntry}
-use Rattle.model.specs.Page.{countOf, heightOf, Holds}
-use Rattle.model.specs.Standing.{numberOf, Standing}
-use Rattle.model.specs.Gap.{gapPages}
+use Rattle.model.specs.Page.{countOf, heightOf}
+use Rattle.model.specs.Standing.{pageNumber, Standing, Holds}
+use Rattle.model.specs.Path.{gapPages}
 use Rattle.model.specs.Insert as insertion
 use Rattle.model.specs.Insert.{whole, split, cutLeft, cutRight, insertAt, onward, run, needed}
 use Rattle.model.specs.Pool.{poolOf, gapBy, freshOf}
@@ -22,7 +23,7 @@ use Rattle.model.specs.Written.{Written}
 use Rattle.model.specs.MapCalls.{putAt, crowded}
 use Rattle.pagemap.specs.declared.Lowest.the-variants as lowest
 use Rattle.pagemap.specs.Bits.{setBit}
-use Rattle.pagemap.specs.Lowest.{freeIn, firstOf}
+use Rattle.pagemap.specs.Lowest.{freeIn, lowestOf}
 use Rattle.page.specs.Node.{alone, wider}
 use Rattle.lend.specs.Pages.{least, most, keeps, OnlyPages, nodeIn, Becomes, pageIn, mapIn}
 use Rattle.lend.specs.Touches.{Touches}
@@ -75,7 +76,7 @@ pub record Puts (p slot : ℕ) (e : Entry) (child : ℕ) (w w′ : List ℕ) (r 
   pub long : length w′ ≡ length w
   pub head : take headWords w′ ≡ take headWords w
   pub fits : 1 ≤ countOf (pageIn w p) → countOf (pageIn w p) < most → slot ≤ countOf (pageIn w p) → Fits p slot e child w w′ r
-  pub parts : (q : ℕ) → countOf (pageIn w p) ≡ most → slot ≤ most → firstOf (freesIn w) ≡ lowest.Page q → p ≢ q → Parts p q slot e child w w′ r
+  pub parts : (q : ℕ) → countOf (pageIn w p) ≡ most → slot ≤ most → lowestOf (freesIn w) ≡ lowest.Page q → p ≢ q → Parts p q slot e child w w′ r
 
 -- ---- a tree
 
@@ -86,7 +87,7 @@ Marked w h t = (q : ℕ) → times q h t ≤ bitAt (mapIn w) q
 -- what is handed up, by page numbers
 abbrev pub upOf : (h : ℕ) → insertion.Up (Tree h) → Up
 upOf h (whole t) = up.Whole
-upOf h (split l e r) = up.Split (e .key) (e .value) (numberOf h r)
+upOf h (split l e r) = up.Split (e .key) (e .value) (pageNumber h r)
 
 abbrev pub UpStands : List ℕ → (h : ℕ) → insertion.Up (Tree h) → Type 0
 UpStands w h (whole t) = Standing least (pageIn w) h t
@@ -126,7 +127,7 @@ pub record Tops (q levels : ℕ) (e : Entry) (l r : ℕ) (w w′ : List ℕ) : T
 pub record NewRoots (levels : ℕ) (e : Entry) (l r : ℕ) (w w′ : List ℕ) : Type 0 where
   pub long : length w′ ≡ length w
   pub count : word w′ 2 ≡ word w 2
-  pub tops : (q : ℕ) → firstOf (freesIn w) ≡ lowest.Page q → Tops q levels e l r w w′
+  pub tops : (q : ℕ) → lowestOf (freesIn w) ≡ lowest.Page q → Tops q levels e l r w w′
 
 -- ---- the pool
 

@@ -8,16 +8,17 @@ use mathlib.Core.List.{List, [], _∷_, _++_, map}
 use Prim.Native.Nat.{ℕ, zero, suc, _+_, _-_, _≤_, _<_, pred}
 use lib.Dec.{leb, ltb}
 use lib.ListN.{length, take, drop}
-use Rattle.model.specs.Lists.{sum, All, final, same}
+use Rattle.model.specs.Basics.{sum, All, final, same}
 use Rattle.model.specs.Layout.{headWords, firstWord, pagesIn, word, today}
 use Rattle.model.specs.PageMap.{bitAt}
 use Rattle.model.specs.Tree.{Entry, entry, Tree, noEntry, size, entries, times, Shaped}
 use Rattle.model.specs.Page.{countOf, heightOf, entriesOf}
-use Rattle.model.specs.Standing.{numberOf, Standing}
+use Rattle.model.specs.Standing.{pageNumber, Standing}
 use Rattle.model.specs.Gap.{slotAt, restAt, childAt}
-use Rattle.model.specs.Mend.{Plan, keep, move, join, plan, mend, spare}
+use Rattle.model.specs.Mend.{Plan, keep, move, join, plan, mend}
 use Rattle.model.specs.Remove as removal
-use Rattle.model.specs.Remove.{planAt, removeAt, freedAt, remove}
+use Rattle.model.specs.Remove.{planAt, removeAt, remove}
+use Rattle.model.specs.Freed.{freedAt, spare}
 use Rattle.model.specs.Pool.{poolOf, gapBy, withWhole, leastBy}
 use Rattle.model.specs.Written.{Written}
 use Rattle.pagemap.specs.Bits.{clearBit}
@@ -90,7 +91,7 @@ near i l = drop (pred i) (take (suc (suc i)) l)
 pub record Mended (h : ℕ) (t : Tree (suc (suc h))) (i : ℕ) (w w′ : List ℕ) : Type 0 where
   pub stands : Standing least (pageIn w′) (suc (suc h)) (mend (planAt least h t i) t)
   pub bits : (q : ℕ) → bitAt (mapIn w′) q + sum (same q) (spare (planAt least h t i) t) ≡ bitAt (mapIn w) q
-  pub touches : Touches (t .page ∷ map (numberOf (suc h)) (near i (t .children))) w w′
+  pub touches : Touches (t .page ∷ map (pageNumber (suc h)) (near i (t .children))) w w′
 
 pub record Mends (u i : ℕ) (w w′ : List ℕ) : Type 0 where
   pub long : length w′ ≡ length w
@@ -134,7 +135,7 @@ goneOf h t g = goneBy (entries h t) g
 unfoldable pub nearPages : (h : ℕ) → Tree (suc h) → ℕ → List ℕ
 nearPages zero t g = t .page ∷ []
 nearPages (suc h) t g =
-    t .page ∷ map (numberOf (suc h)) (near (slotAt (suc h) t g) (t .children)) ++ nearPages h (childAt (suc h) t g) (restAt (suc h) t g)
+    t .page ∷ map (pageNumber (suc h)) (near (slotAt (suc h) t g) (t .children)) ++ nearPages h (childAt (suc h) t g) (restAt (suc h) t g)
 
 pub record Shrinks (w : List ℕ) (h : ℕ) (t : Tree (suc h)) (g : ℕ) (w′ : List ℕ) (r : Gone) : Type 0 where
   pub handed : r ≡ goneOf (suc h) t g

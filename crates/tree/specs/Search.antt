@@ -6,14 +6,15 @@ use mathlib.Core.Path.{_≡_}
 use mathlib.Core.Bool.{Bool, true, false, cond}
 use mathlib.Core.Option.{Option, none, some}
 use mathlib.Core.List.{List}
-use Prim.Native.Nat.{ℕ, suc, _+_}
+use Prim.Native.Nat.{ℕ, suc, _+_, _≤_}
 use lib.Dec.{leb, ltb, eqb}
 use lib.ListN.{length}
 use Rattle.model.specs.Layout.{pagesIn, today}
 use Rattle.model.specs.Tree.{Tree}
 use Rattle.model.specs.Page.{heightOf, childIn}
 use Rattle.model.specs.Entries.{lookup, gapOf}
-use Rattle.model.specs.Gap.{Found, seekPages, seekSlots, find}
+use Rattle.model.specs.Search.{Found}
+use Rattle.model.specs.Path.{seekPages, seekSlots, find}
 use Rattle.model.specs.Pool.{heldBy, poolOf}
 use Rattle.model.specs.Sound.{Sound}
 use Rattle.model.specs.MapCalls.{pagesRead}
@@ -62,12 +63,16 @@ abbrev pub gotBy : ℕ → Option ℕ → ℕ → Got
 gotBy above (some v) read = got.Value v (above + read)
 gotBy above none read = got.Absent
 
-abbrev pub gotOf : ℕ → Found → Got
-gotOf above f = gotBy above (f .value) (f .read)
+abbrev pub gotFound : ℕ → Found → Got
+gotFound above f = gotBy above (f .value) (f .read)
 
 -- of page p, of height h
 abbrev pub GetsBelow : List ℕ → ℕ → ℕ → ℕ → ℕ → Got → Type 0
-GetsBelow w p h k above r = (low : ℕ) (t : Tree (suc h)) → Sits w low (suc h) t → t .page ≡ p → r ≡ gotOf above (find k (suc h) t)
+GetsBelow w p h k above r = (low : ℕ) (t : Tree (suc h)) → Sits w low (suc h) t → t .page ≡ p → r ≡ gotFound above (find k (suc h) t)
+
+-- on any words: no more pages read than n
+abbrev pub ReadFew : ℕ → Got → Type 0
+ReadFew n r = (v read : ℕ) → r ≡ got.Value v read → read ≤ n
 
 -- of the pool: the value of the key, and the pages read where it is there
 abbrev pub Gets : List ℕ → ℕ → Got → Type 0

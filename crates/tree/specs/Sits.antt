@@ -5,11 +5,11 @@ use mathlib.Core.Path.{_≡_}
 use mathlib.Core.List.{List}
 use Prim.Native.Nat.{ℕ, suc, _≤_, _<_}
 use lib.ListN.{length}
-use Rattle.model.specs.Lists.{All}
+use Rattle.model.specs.Basics.{All}
 use Rattle.model.specs.Layout.{pagesIn, today}
 use Rattle.model.specs.Tree.{Tree, entries, size, times, Rising, Shaped}
 use Rattle.model.specs.Standing.{Standing}
-use Rattle.model.specs.Gap.{gapPages, gapSlots}
+use Rattle.model.specs.Path.{gapPages, gapSlots}
 use Rattle.model.specs.Pool.{heldBy, poolOf}
 use Rattle.model.specs.Sound.{Sound}
 use Rattle.lend.specs.Pages.{least, most, Inside, pageIn}

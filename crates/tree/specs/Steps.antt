@@ -9,9 +9,10 @@ use Prim.Native.Nat.{ℕ, zero, suc, _≤_, _<_}
 use lib.Dec.{ltb}
 use lib.ListN.{length, getD}
 use Rattle.model.specs.Tree.{Entry, noEntry, Tree, entries, size, Rising}
-use Rattle.model.specs.Standing.{numberOf}
+use Rattle.model.specs.Standing.{pageNumber}
 use Rattle.model.specs.Entries.{next, prev, forth, back}
-use Rattle.model.specs.Gap.{slotAt, restAt, child, childAt, seekPages, seekSlots}
+use Rattle.model.specs.Gap.{slotAt, restAt, child, childAt}
+use Rattle.model.specs.Path.{seekPages, seekSlots}
 use Rattle.page.specs.Page.{holdsAt}
 use Rattle.lend.specs.Pages.{most, Inside, pageIn}
 use Rattle.tree.specs.declared.search.Aim.{Aim}
@@ -95,7 +96,7 @@ pub record Turns (w : List ℕ) (p at : ℕ) (aim : Aim) (ps ss ps′ ss′ : Li
   pub pages : length ps′ ≡ length ps
   pub slots : length ss′ ≡ length ss
   pub inside : r ≡ true → PathIn w ps′ ss′
-  pub exact : (low h : ℕ) (t : Tree h) → length ps ≡ h → Sits w low h t → Rising (entries h t) → (0 < h → belowOf w p at ≡ below.Page (numberOf h t))
+  pub exact : (low h : ℕ) (t : Tree h) → length ps ≡ h → Sits w low h t → Rising (entries h t) → (0 < h → belowOf w p at ≡ below.Page (pageNumber h t))
       → (r ≡ true) × (ps′ ≡ seekPages (aimed aim) h t) × (ss′ ≡ seekSlots (aimed aim) h t)
 
 -- over entry s of the path's first page, to child `slot`

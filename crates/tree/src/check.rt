@@ -5,7 +5,7 @@ ghost use mathlib.Core.Path.{_≡_};
 ghost use mathlib.Core.Bool.{true};
 ghost use Prim.Native.Nat.{_*_, _≤_};
 ghost use lib.ListN.{length};
-ghost use Rattle.model.specs.Lists.{every};
+ghost use Rattle.model.specs.Basics.{every};
 ghost use Rattle.model.specs.Layout.{mostPages, firstWord, pagesIn, today};
 ghost use Rattle.model.specs.Head.{headed};
 ghost use Rattle.model.specs.PoolCalls.{Checks};

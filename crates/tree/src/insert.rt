@@ -4,7 +4,7 @@ ghost use mathlib.Core.Path.{_≡_};
 ghost use mathlib.Core.Bool.{true};
 ghost use Prim.Native.Nat.{_≤_};
 ghost use lib.ListN.{length, getD};
-ghost use Rattle.model.specs.Lists.{All};
+ghost use Rattle.model.specs.Basics.{All};
 ghost use Rattle.model.specs.Layout.{today, mostLevels};
 ghost use Rattle.model.specs.Head.{levelsWord, headed};
 ghost use Rattle.model.specs.Tree.{entry};

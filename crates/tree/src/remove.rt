@@ -7,7 +7,7 @@ ghost use mathlib.Core.List.{[], _∷_};
 ghost use Prim.Native.Nat.{_≤_};
 ghost use lib.Dec.{leb};
 ghost use lib.ListN.{length};
-ghost use Rattle.model.specs.Lists.{every};
+ghost use Rattle.model.specs.Basics.{every};
 ghost use Rattle.model.specs.Layout.{today, mostLevels, firstWord};
 ghost use Rattle.model.specs.Head.{levelsWord, headed};
 ghost use Rattle.model.specs.Page.{countOf};

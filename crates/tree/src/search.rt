@@ -3,13 +3,13 @@
 // else is `Unsound`, and nothing has been stored.
 ghost use mathlib.Core.Path.{_≡_};
 ghost use mathlib.Core.Bool.{true, false};
-ghost use Prim.Native.Nat.{_+_, _≤_, _<_};
+ghost use Prim.Native.Nat.{suc, _+_, _≤_, _<_};
 ghost use lib.ListN.{length};
 ghost use Rattle.model.specs.Layout.{today, mostLevels, firstWord};
 ghost use Rattle.model.specs.Head.{levelsWord, headed};
 ghost use Rattle.page.specs.Runs.{upTo};
 ghost use Rattle.lend.specs.Pages.{Inside};
-ghost use Rattle.tree.specs.Search.{belowOf, placeAt, aimed, slotBy, GetsBelow, Gets, SeeksBelow, Seeks};
+ghost use Rattle.tree.specs.Search.{belowOf, placeAt, aimed, slotBy, GetsBelow, ReadFew, Gets, SeeksBelow, Seeks};
 use lend::bits;
 use lend::pages;
 use model::LEVELS;
@@ -68,7 +68,7 @@ fn look(pool: &[u64], p: usize, h: usize, key: u64) -> Place
 // The search from page `p`, of height `h`, down; `above` pages were read before.
 pub fn get_below(pool: &[u64], p: usize, h: usize, key: u64, above: usize) -> Got
     requires { ⌜ (firstWord today 0 ≤ length (now pool)) × Inside p (now pool) × (above + h < mostLevels today) ⌝ }
-    ensures { λ r. ⌜ GetsBelow (now (pool .entry)) p h key above r ⌝ }
+    ensures { λ r. ⌜ GetsBelow (now (pool .entry)) p h key above r × ReadFew (suc (above + h)) r ⌝ }
 {
     let mut at = p;
     let mut left = h;
@@ -97,7 +97,7 @@ pub fn get_below(pool: &[u64], p: usize, h: usize, key: u64, above: usize) -> Go
 // The value of a key.
 pub fn get(pool: &[u64], key: u64) -> Got
     requires { ⌜ headed (now pool) ≡ true ⌝ }
-    ensures { λ r. ⌜ Gets (now (pool .entry)) key r ⌝ }
+    ensures { λ r. ⌜ Gets (now (pool .entry)) key r × ReadFew (levelsWord (now (pool .entry))) r ⌝ }
 {
     let levels = pool[LEVELS] as usize;
     if levels == 0 {

@@ -1,12 +1,15 @@
--- `close` meets its contract: a closed cursor has words 5 to 7 zero. Assumes nothing.
+-- `close` meets its contract: words 5 to 7 become 0 wherever the head fits. Assumes nothing.
 use mathlib.Core.Path.{_≡_, refl, sym, ap, _∙_}
+use native.Mathlib.Omega.{arith}
 use borrow.Author.Needs.{needs}
 use Rattle.model.specs.Refusal.{refusal}
-use Rattle.model.specs.CursorCalls.{cursorTests, cursorClose}
-use Rattle.map.specs.Answers.{earlyNumber}
-use Rattle.map.proofs.Calling.{meets-refused}
+use Rattle.model.specs.CursorCalls.{cursorTests}
+use Rattle.map.specs.Answers.{earlyNumber, numberOf}
+use Rattle.model.proofs.Making.{exact-stopped, exact-done}
+use Rattle.lend.proofs.Fitting.{head-long}
+use Rattle.map.proofs.Answers.{number-some}
 use Rattle.cursor.proofs.Gaps.{passes-cursor}
-use Rattle.cursor.proofs.Edits.{closes}
+use Rattle.cursor.proofs.Edits.{gap-cleared}
 use Rattle.cursor.proofs.close.Statement.{statement}
 use Rattle.cursor.proofs.close.Tie as tie
 
@@ -22,7 +25,7 @@ same-length c = search needs
 returns : tie.Need-returns
 returns c =
     let told = c .before .n .given in
-    meets-refused cursorClose _ (told .0 .0) (λ w p. (refl, refl)) (sym (ap earlyNumber (told .1)) ∙ c .before .before .before .ready .ensures)
+    exact-stopped (numberOf (told .0 .0)) (sym (sym (ap earlyNumber (told .1)) ∙ c .before .before .before .ready .ensures)) (number-some (told .0 .0)) refl
 
 enum-told : tie.Need-enum-told
 enum-told c = search needs
@@ -38,7 +41,10 @@ same-length-2 : tie.Need-same-length-2
 same-length-2 c = search needs
 
 returns-2 : tie.Need-returns-2
-returns-2 c = closes (passed (c .before .before .before .before)) (c .before .before .lay .ensures)
+returns-2 c =
+    let pass = sym (passed (c .before .before .before .before)) in
+    let long = head-long _ (passes-cursor _ pass .fits) in
+    exact-done pass (c .before .before .lay .ensures ∙ gap-cleared _ (omega arith))
 
 pub close-spec : {M : Type 1} → statement M
 close-spec =

@@ -58,7 +58,7 @@ enum-known-value c = search needs
 returns-3 : tie.Need-returns-3
 returns-3 c =
     let past = c .before .before .before in
-    peek-prev-lost (passed (past .before .before)) (named past) (c .before .get .ensures) (c .match2 .keys2)
+    peek-prev-lost (passed (past .before .before)) (named past) (c .before .get .ensures .0) (c .match2 .keys2)
 
 returns-4 : tie.Need-returns-4
 returns-4 c =

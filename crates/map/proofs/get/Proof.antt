@@ -5,6 +5,7 @@ use Rattle.model.specs.Refusal.{refusal, mapKind}
 use Rattle.model.specs.MapCalls.{readTests, mapGet}
 use Rattle.map.specs.Answers.{earlyNumber}
 use Rattle.model.proofs.Meets.{passes-reading}
+use Rattle.model.proofs.Reading.{pages-refused}
 use Rattle.map.proofs.Calling.{meets-refused, get-unsound, get-value, get-absent}
 use Rattle.map.proofs.get.Statement.{statement}
 use Rattle.map.proofs.get.Tie as tie
@@ -19,7 +20,7 @@ returns : tie.Need-returns
 returns c =
     let a = c .before .before .before .before .before .args in
     let told = c .before .n .given in
-    meets-refused (mapGet (a .key)) (a .pool .now) (told .0 .0) (λ w p. (refl, refl)) (sym (ap earlyNumber (told .1)) ∙ c .before .before .before .reading .ensures)
+    pages-refused (meets-refused (mapGet (a .key)) (a .pool .now) (told .0 .0) (λ w p. (refl, refl)) (sym (ap earlyNumber (told .1)) ∙ c .before .before .before .reading .ensures))
 
 enum-told : tie.Need-enum-told
 enum-told c = search needs

@@ -34,7 +34,7 @@ passed : (c : tie.After-enum-told) → 0 ≡ refusal (changeTests mapKind (c .be
 passed c = sym (ap earlyNumber (c .enum-told .given .1)) ∙ c .before .before .changing .ensures
 
 add-requires : tie.Need-add-requires
-add-requires c κs = passes-changing mapKind _ (sym (passed (c .before))) .0
+add-requires c κs = let p = passes-changing mapKind _ (sym (passed (c .before))) in (p .0, p .2)
 
 enum-told-2 : tie.Need-enum-told-2
 enum-told-2 c = search needs

@@ -34,7 +34,7 @@ passed : (c : tie.After-enum-told) → 0 ≡ refusal (changeTests mapKind (c .be
 passed c = sym (ap earlyNumber (c .enum-told .given .1)) ∙ c .before .before .changing .ensures
 
 strike-requires : tie.Need-strike-requires
-strike-requires c κs = passes-changing mapKind _ (sym (passed (c .before))) .0
+strike-requires c κs = let p = passes-changing mapKind _ (sym (passed (c .before))) in (p .0, p .2)
 
 enum-known-value : tie.Need-enum-known-value
 enum-known-value c = search needs

@@ -1,4 +1,5 @@
--- `pagemap::has_free` meets its contract. The loop's invariant: of the pages passed, so many as counted are free and the others' bits are 1.
+-- `pagemap::has_free` meets its contract. The loop's invariant: of the pages passed, so many as counted are free and
+-- the others' bits are 1.
 -- Assumes nothing.
 use mathlib.Core.Path.{_≡_, sym, ap}
 use Prim.Native.Nat.{_+_, _-_, _*_, _≤_, min}
@@ -6,7 +7,7 @@ use native.Mathlib.Omega.{arith}
 use lib.Dec.{leb}
 use lib.ListN.{length}
 use borrow.Author.Tests.{le-leb}
-use Rattle.model.specs.Lists.{sumTo}
+use Rattle.model.specs.Sums.{sumTo}
 use Rattle.model.specs.PageMap.{bitAt}
 use Rattle.model.proofs.PageMap.{free-count}
 use Rattle.pagemap.proofs.Map.{bitAt-le, free-part, free-next}

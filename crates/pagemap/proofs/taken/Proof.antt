@@ -1,15 +1,17 @@
--- `pagemap::taken` meets its contract. The loop's invariant: the count is the sum of the bits of the words passed. Assumes nothing.
+-- `pagemap::taken` meets its contract. The loop's invariant: the count is the sum of the bits of the words passed.
+-- Assumes nothing.
 use mathlib.Core.Path.{_≡_}
 use Prim.Native.Nat.{ℕ, _-_, _*_, _^_, _≤_, _<_}
 use native.Mathlib.Omega.{arith}
 use lib.Count.{ones, ones-le}
 use lib.ListN.{length, getD}
-use Rattle.model.specs.Lists.{sumTo}
-use Rattle.model.specs.PageMap.{bitAt, countBits}
+use Rattle.model.specs.Sums.{sumTo}
+use Rattle.model.specs.PageMap.{bitAt}
 use Rattle.model.proofs.Sums.{sumTo-le}
 use Rattle.pagemap.proofs.Map.{bitAt-le, sum-word}
 use Rattle.pagemap.proofs.taken.Statement.{statement}
 use Rattle.pagemap.proofs.taken.Tie as tie
+use Rattle.pagemap.specs.Bits.{countBits}
 
 abbrev Inv-loop : tie.InvT-loop
 Inv-loop map n₀ w₀ n w = (w ≤ length map) × (n ≡ sumTo (bitAt map) (64 * w))

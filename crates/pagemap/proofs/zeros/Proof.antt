@@ -1,4 +1,5 @@
--- `pagemap::zeros` meets its contract: the ones of the word, or of its part under the mask, are the sum of those bits. Assumes nothing.
+-- `pagemap::zeros` meets its contract: the ones of the word, or of its part under the mask, are the sum of those bits.
+-- Assumes nothing.
 use mathlib.Core.Path.{_≡_}
 use Prim.Native.Nat.{_-_, _*_, _%_, _^_, _≤_, min}
 use native.Mathlib.Omega.{arith}
@@ -6,7 +7,7 @@ use lib.Bits.{bitAnd}
 use lib.Count.{ones, ones-le}
 use lib.Pow.{pow-pos}
 use borrow.Author.Needs.{needs}
-use Rattle.model.specs.Lists.{sumTo}
+use Rattle.model.specs.Sums.{sumTo}
 use Rattle.model.specs.PageMap.{bit}
 use Rattle.model.proofs.Sums.{sumTo-le}
 use Rattle.model.proofs.PageMap.{bit-lt}

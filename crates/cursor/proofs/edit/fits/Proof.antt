@@ -7,7 +7,7 @@ use borrow.Author.Needs.{needs}
 use borrow.Author.Tests.{lt-ltb, le-ltb, eq-eqb, ne-eqb}
 use Rattle.model.specs.Tree.{Entry}
 use Rattle.cursor.specs.Ahead.{aboveNamed}
-use Rattle.model.proofs.Lists.{every-one}
+use Rattle.model.proofs.Basics.{every-one}
 use Rattle.lend.proofs.Fitting.{head-long}
 use Rattle.cursor.proofs.edit.fits.Statement.{statement}
 use Rattle.cursor.proofs.edit.fits.Tie as tie

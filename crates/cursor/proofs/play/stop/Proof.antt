@@ -6,16 +6,16 @@ use Rattle.map.specs.declared.list.Listed.the-variants as listed
 use Rattle.map.specs.declared.refusal.Refusal.{Refusal}
 use Rattle.cursor.specs.declared.Step.{Step}
 use Rattle.cursor.specs.declared.Step.the-variants as step
-use Rattle.cursor.specs.Playback.{Stops}
+use Rattle.cursor.specs.Playback.{PlayStops}
 use Rattle.model.proofs.Cases.{never}
 use Rattle.cursor.proofs.play.stop.Statement.{statement}
 use Rattle.cursor.proofs.play.stop.Tie as tie
 
 -- what was written may be told, whatever the step answers
-wrote : (s : Step) (n : ℕ) → Stops s n (listed.Wrote n)
+wrote : (s : Step) (n : ℕ) → PlayStops s n (listed.Wrote n)
 wrote s n = record { wrote = λ e. refl; stops = λ e q. never (cc) }
 
-refuses : {s : Step} {e : Refusal} → s ≡ step.Refused e → Stops s 0 (listed.Refused e)
+refuses : {s : Step} {e : Refusal} → s ≡ step.Refused e → PlayStops s 0 (listed.Refused e)
 refuses is = record { wrote = λ e. never (cc); stops = λ e q. (cc, refl) }
 
 returns : tie.Need-returns

@@ -7,7 +7,7 @@ use lib.ListN.{take}
 use borrow.Author.Needs.{needs}
 use borrow.Author.Tests.{le-leb, lt-leb}
 use Rattle.model.specs.Layout.{mostPages, firstWord, pagesIn, lengthTests, allowed, today}
-use Rattle.model.proofs.Lists.{every-all, every-then, every-fails, every-one}
+use Rattle.model.proofs.Basics.{every-all, every-then, every-fails, every-one}
 use Rattle.lend.proofs.head.allowed.Statement.{statement}
 use Rattle.lend.proofs.head.allowed.Tie as tie
 

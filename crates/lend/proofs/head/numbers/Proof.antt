@@ -8,7 +8,7 @@ use borrow.Author.Needs.{needs}
 use borrow.Author.Tests.{lt-leb, le-leb, eq-eqb, ne-eqb, not-true, not-false}
 use Rattle.model.specs.Layout.{word, today}
 use Rattle.model.specs.Head.{numberTests, bothOrNeither}
-use Rattle.model.proofs.Lists.{every-all, every-then, every-fails, every-one}
+use Rattle.model.proofs.Basics.{every-all, every-then, every-fails, every-one}
 use Rattle.lend.proofs.head.numbers.Statement.{statement}
 use Rattle.lend.proofs.head.numbers.Tie as tie
 

@@ -1,11 +1,12 @@
--- `head::spare_zero` meets its contract. The loop keeps what is left of the test: the ORed words are 0, and so are the words from i on. Assumes nothing.
+-- `head::spare_zero` meets its contract. The loop keeps what is left of the test: the ORed words are 0, and so are the
+-- words from i on. Assumes nothing.
 use mathlib.Core.Path.{_≡_, sym, ap, _∙_}
 use mathlib.Core.List.{map}
 use Prim.Native.Nat.{_-_, _≤_}
 use native.Mathlib.Omega.{arith}
 use lib.Dec.{eqb}
 use borrow.Author.Needs.{needs}
-use Rattle.model.specs.Lists.{every}
+use Rattle.model.specs.Basics.{every}
 use Rattle.model.specs.Layout.{headWords}
 use Rattle.model.specs.Head.{spareWords}
 use Rattle.lend.proofs.Fitting.{spareLeft, spare-begins, spare-turn, spare-ends}

@@ -6,7 +6,7 @@ use native.Mathlib.Numerals.{add-one}
 use native.Mathlib.Omega.{arith}
 use borrow.Author.Needs.{needs}
 use borrow.Author.Tests.{not-true, not-false, le-leb, lt-leb, le-ltb}
-use Rattle.model.specs.Lists.{every}
+use Rattle.model.specs.Basics.{every}
 use Rattle.model.specs.Page.{countOf}
 use Rattle.page.specs.Page.{holdsAt}
 use Rattle.lend.specs.Pages.{most, areApart, canJoin, pageIn}

@@ -3,7 +3,7 @@ use mathlib.Core.Path.{_≡_, sym, _∙_}
 use mathlib.Core.Bool.{true}
 use borrow.Author.Needs.{needs}
 use borrow.Author.Tests.{not-true, not-false}
-use Rattle.model.specs.Lists.{every}
+use Rattle.model.specs.Basics.{every}
 use Rattle.page.specs.Page.{holdsAt}
 use Rattle.lend.specs.Pages.{most, areApart, canPass, pageIn}
 use Rattle.page.proofs.Pages.{last-test}

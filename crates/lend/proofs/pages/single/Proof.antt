@@ -1,7 +1,7 @@
 -- `pages::single` meets its contract: what `page::single` says of the page, said of the pool. Assumes nothing.
 use borrow.Author.Needs.{needs}
 use Rattle.model.specs.Tree.{entry}
-use Rattle.model.specs.Page.{Holds}
+use Rattle.model.specs.Standing.{Holds}
 use Rattle.page.specs.Node.{alone}
 use Rattle.lend.specs.Pages.{most}
 use Rattle.lend.proofs.Lent.{lent-only, lent-said}

@@ -21,7 +21,7 @@ insert-requires : tie.Need-insert-requires
 insert-requires c κs =
     let given = c .before .before .before .before .before .before .before .before .before .before .before .before .before .before .before .before .pre in
     let seeks = c .before .before .before .before .before .before .before .before .before .seek .ensures in
-    (given .0, (seeks .pages ∙ given .1 .0, seeks .absent (c .before .before .before .enum-told2 .given .1)))
+    (given .0 .0, (seeks .pages ∙ given .1 .0, seeks .absent (c .before .before .before .enum-told2 .given .1)))
 
 enum-told-3 : tie.Need-enum-told-3
 enum-told-3 c = search needs
@@ -63,7 +63,7 @@ same-length-9 : tie.Need-same-length-9
 same-length-9 c = search needs
 
 returns-3 : tie.Need-returns-3
-returns-3 c = adds-new (c .before .before .before .before .before .before .before .before .before .before .before .before .before .before .seek .ensures) (c .before .before .before .before .before .before .before .before .enum-told2 .given .1) (c .before .before .before .before .insert .ensures) (c .enum-told3 .given .1)
+returns-3 c = adds-new (c .before .before .before .before .before .before .before .before .before .before .before .before .before .before .seek .ensures) (c .before .before .before .before .before .before .before .before .enum-told2 .given .1) (c .before .before .before .before .insert .ensures) (c .before .before .before .before .before .before .before .before .before .before .before .before .before .before .before .before .before .before .before .before .before .pre .0 .1) (c .enum-told3 .given .1)
 
 same-length-10 : tie.Need-same-length-10
 same-length-10 c = search needs

@@ -1,4 +1,5 @@
--- `entry::strike_by`: the entry after the path's gap goes where it is the key's, and its value is read before. Assumes nothing.
+-- `entry::strike_by`: the entry after the path's gap goes where it is the key's, and its value is read before. Assumes
+-- nothing.
 use mathlib.Core.Path.{_∙_}
 use borrow.Author.Needs.{needs}
 use Rattle.map.proofs.Placing.{strikes-unsound, strikes-absent, strikes-done, strikes-lost}
@@ -24,7 +25,7 @@ remove-requires : tie.Need-remove-requires
 remove-requires c κs =
     let given = c .before .before .before .before .before .before .before .before .before .before .before .before .before .before .before .before .before .before .before .pre in
     let seeks = c .before .before .before .before .before .before .before .before .before .before .before .before .seek .ensures in
-    (given .0, (seeks .pages ∙ given .1 .0, seeks .here _ _ (c .before .before .before .before .before .before .p .given .1)))
+    (given .0 .0, (seeks .pages ∙ given .1 .0, seeks .here _ _ (c .before .before .before .before .before .before .p .given .1)))
 
 enum-told-3 : tie.Need-enum-told-3
 enum-told-3 c = search needs
@@ -67,7 +68,7 @@ same-length-9 c = search needs
 
 returns-3 : tie.Need-returns-3
 returns-3 c =
-    strikes-done (c .before .before .before .before .before .before .before .before .before .before .before .before .before .before .before .before .before .seek .ensures) (c .before .before .before .before .before .before .before .before .before .before .before .p .given .1) (c .before .before .before .before .remove .ensures) (c .before .before .before .before .before .before .before .before .entry-at .ensures) (c .enum-told3 .given .1)
+    strikes-done (c .before .before .before .before .before .before .before .before .before .before .before .before .before .before .before .before .before .seek .ensures) (c .before .before .before .before .before .before .before .before .before .before .before .p .given .1) (c .before .before .before .before .remove .ensures) (c .before .before .before .before .before .before .before .before .before .before .before .before .before .before .before .before .before .before .before .before .before .before .before .before .pre .0 .1) (c .before .before .before .before .before .before .before .before .entry-at .ensures) (c .enum-told3 .given .1)
 
 same-length-10 : tie.Need-same-length-10
 same-length-10 c = search needs

@@ -1,16 +1,13 @@
 -- `pool::clear` meets its contract: each refusal by the tests that led there, and else the pool that is laid, of the
 -- kind that it had. Assumes nothing.
-use mathlib.Core.Path.{_≡_, sym, _∙_}
+use mathlib.Core.Path.{_≡_, refl, sym, _∙_}
 use mathlib.Core.Bool.{true, false}
 use native.Mathlib.Omega.{arith}
 use borrow.Author.Needs.{needs}
 use borrow.Author.Tests.{not-true, not-false, eq-eqb, ne-eqb}
-use Rattle.model.specs.Head.{headed, kindWord, geometryOf}
-use Rattle.model.specs.PoolCalls.{clearTests}
-use Rattle.model.proofs.Lawful.{geometry-lawful}
-use Rattle.model.proofs.Head.{head-facts}
+use Rattle.model.specs.Head.{headed, geometryOf}
+use Rattle.model.proofs.Making.{exact-stopped, exact-done}
 use Rattle.lend.proofs.Fitting.{head-long, headed-allowed}
-use Rattle.map.proofs.Making.{makes-refused, makes-done}
 use Rattle.map.proofs.pool.clear.Statement.{statement}
 use Rattle.map.proofs.pool.clear.Tie as tie
 
@@ -24,7 +21,7 @@ returns : tie.Need-returns
 returns c =
     let w = c .before .before .before .before .args .pool .now in
     let no-head : headed w ≡ false = sym (c .before .fits2 .ensures) ∙ not-true _ (c .if1 .taken) in
-    makes-refused (clearTests w) (geometryOf w) (kindWord w) w 1 (rw no-head) (omega arith)
+    exact-stopped 1 (rw no-head) (omega arith) refl
 
 -- past the head
 fitting : (c : tie.Else1) → headed (c .before .before .before .before .args .pool .now) ≡ true
@@ -38,14 +35,13 @@ same-length-2 c = search needs
 
 returns-2 : tie.Need-returns-2
 returns-2 c =
-    let w = c .before .before .before .before .before .before .args .pool .now in
-    makes-refused (clearTests w) (geometryOf w) (kindWord w) w 4 (rw (fitting (c .before .before), eq-eqb _ _ (c .if2 .taken))) (omega arith)
+    exact-stopped 4 (rw (fitting (c .before .before), eq-eqb _ _ (c .if2 .taken))) (omega arith) refl
 
 slice-read-kind : tie.Need-slice-read-kind
 slice-read-kind c = let long = head-long _ (fitting (c .before .before .before)) in omega arith
 
 lay-requires : tie.Need-lay-requires
-lay-requires c κs = let e = fitting (c .before .before .before .before) in (headed-allowed _ e, head-facts _ e .kind)
+lay-requires c κs = headed-allowed _ (fitting (c .before .before .before .before))
 
 same-length-3 : tie.Need-same-length-3
 same-length-3 c = search needs
@@ -54,10 +50,7 @@ returns-3 : tie.Need-returns-3
 unfolding geometryOf
 returns-3 c =
     let past = c .before .before .before .before .before in
-    let w = past .before .before .before .before .before .before .args .pool .now in
-    let e = fitting (past .before .before) in
-    makes-done (clearTests w) (geometryOf w) (kindWord w) w (geometry-lawful w) _ (rw (e, ne-eqb _ _ (past .if2 .left))) (headed-allowed w e) (head-facts w e .kind)
-    (c .before .before .lay .ensures)
+    exact-done (rw (fitting (past .before .before), ne-eqb _ _ (past .if2 .left))) (c .before .before .lay .ensures)
 
 pub clear-spec : {M : Type 1} → statement M
 clear-spec =

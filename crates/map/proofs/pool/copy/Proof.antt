@@ -1,6 +1,6 @@
 -- `pool::copy` meets its contract: each refusal by the tests that led there, and else the source's words with 5 to 7
 -- made 0. Assumes nothing.
-use mathlib.Core.Path.{_≡_, sym, ap, _∙_}
+use mathlib.Core.Path.{_≡_, refl, sym, ap, _∙_}
 use mathlib.Core.Bool.{true, false}
 use mathlib.Core.Logic.{⊎-elim}
 use Prim.Native.Nat.{_≤_}
@@ -12,8 +12,9 @@ use Rattle.model.specs.Layout.{firstWord, allowed, today}
 use Rattle.model.specs.Head.{headed, geometryOf}
 use Rattle.model.specs.Refusal.{refusal}
 use Rattle.model.specs.PoolCalls.{copyTests}
+use Rattle.model.proofs.Making.{exact-stopped, exact-done}
 use Rattle.lend.proofs.Fitting.{head-long}
-use Rattle.map.proofs.Making.{copies-refused, copies-done}
+use Rattle.map.proofs.Making.{copied-cursorless}
 use Rattle.map.proofs.pool.copy.Statement.{statement}
 use Rattle.map.proofs.pool.copy.Tie as tie
 
@@ -24,7 +25,7 @@ returns : tie.Need-returns
 returns c =
     let a = c .before .before .before .before .args in
     let no-head : headed (a .source .now) ≡ false = sym (c .before .fits2 .ensures) ∙ not-true _ (c .if1 .taken) in
-    copies-refused (a .source .now) (a .destination .now) 1 (rw no-head) (omega arith)
+    exact-stopped 1 (rw no-head) (omega arith) refl
 
 -- past the source's head
 fitting : (c : tie.Else1) → headed (c .before .before .before .before .args .source .now) ≡ true
@@ -38,7 +39,7 @@ unfolding geometryOf
 returns-2 c =
     let a = c .before .before .before .before .before .before .args in
     let no-length : allowed today (length (a .destination .now)) ≡ false = sym (c .before .allowed .ensures) ∙ not-true _ (c .if2 .taken) in
-    copies-refused (a .source .now) (a .destination .now) 1 (rw (fitting (c .before .before), no-length)) (omega arith)
+    exact-stopped 1 (rw (fitting (c .before .before), no-length)) (omega arith) refl
 
 -- past the destination's length
 sized : (c : tie.Else2) → allowed today (length (c .before .before .before .before .before .before .args .destination .now)) ≡ true
@@ -49,7 +50,7 @@ unfolding geometryOf
 returns-3 c =
     let past = c .before in
     let a = past .before .before .before .before .before .before .args in
-    copies-refused (a .source .now) (a .destination .now) 8 (rw (fitting (past .before .before), sized past, ne-eqb _ _ (c .if3 .taken))) (omega arith)
+    exact-stopped 8 (rw (fitting (past .before .before), sized past, ne-eqb _ _ (c .if3 .taken))) (omega arith) refl
 
 fits-requires-2 : tie.Need-fits-requires-2
 fits-requires-2 c κs = search needs
@@ -67,8 +68,8 @@ returns-4 c =
     let past = fits .before .before .before in
     let a = past .before .before .before .before .before .before .args in
     let its-head : headed (a .destination .now) ≡ true = sym (fits .fits3 .ensures) ∙ c .before .before .if4 .taken in
-    copies-refused (a .source .now) (a .destination .now) 4
-    (rw (fitting (past .before .before), sized past, eq-eqb _ _ (fits .before .before .if3 .left), its-head, eq-eqb _ _ (c .if5 .taken))) (omega arith)
+    exact-stopped 4
+    (rw (fitting (past .before .before), sized past, eq-eqb _ _ (fits .before .before .if3 .left), its-head, eq-eqb _ _ (c .if5 .taken))) (omega arith) refl
 
 -- past all tests
 passed : (c : tie.Joined4)
@@ -112,7 +113,7 @@ returns-5 c =
     let all = c .before .before .before .before .before .before in
     let joined = all .before .before in
     let a = joined .before .before .before .before .before .before .before .before .before .before .args in
-    copies-done (a .source .now) (a .destination .now) _ _ (passed joined) (room joined) (all .copy-words .ensures) (c .before .before .zero .ensures)
+    exact-done (passed joined) (copied-cursorless (a .source .now) _ _ (room joined) (all .copy-words .ensures) (c .before .before .zero .ensures))
 
 pub copy-spec : {M : Type 1} → statement M
 copy-spec =

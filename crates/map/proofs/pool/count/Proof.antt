@@ -1,13 +1,11 @@
--- `pool::count` meets its contract: word 2 counts a sound pool's entries. Assumes nothing.
+-- `pool::count` meets its contract: it is word 2 wherever the head fits. Assumes nothing.
 use mathlib.Core.Path.{_≡_, refl, sym, _∙_}
 use mathlib.Core.Bool.{true, false}
 use native.Mathlib.Omega.{arith}
 use borrow.Author.Needs.{needs}
 use borrow.Author.Tests.{not-true, not-false}
 use Rattle.model.specs.Head.{headed}
-use Rattle.model.specs.Pool.{poolOf}
-use Rattle.model.specs.PoolCalls.{poolCount}
-use Rattle.model.proofs.Meets.{meets-early, meets-read}
+use Rattle.model.proofs.Making.{exact-stopped, exact-done}
 use Rattle.lend.proofs.Fitting.{head-long}
 use Rattle.map.proofs.pool.count.Statement.{statement}
 use Rattle.map.proofs.pool.count.Tie as tie
@@ -19,7 +17,7 @@ returns : tie.Need-returns
 returns c =
     let w = c .before .before .before .args .pool .now in
     let no-head : headed w ≡ false = sym (c .before .fits2 .ensures) ∙ not-true _ (c .if1 .taken) in
-    meets-early poolCount (λ w p. (refl, refl)) w 1 (rw no-head) (omega arith)
+    exact-stopped 1 (rw no-head) (omega arith) refl
 
 -- past the head
 fitting : (c : tie.Else1) → headed (c .before .before .before .args .pool .now) ≡ true
@@ -29,8 +27,7 @@ shared-slice-read-entries : tie.Need-shared-slice-read-entries
 shared-slice-read-entries c = let long = head-long _ (fitting (c .before)) in omega arith
 
 returns-2 : tie.Need-returns-2
-unfolding poolOf
-returns-2 c = meets-read _ _ (λ w p. (refl, refl)) (rw (fitting (c .before))) (λ s. sym (s .count))
+returns-2 c = exact-done (rw (fitting (c .before))) refl
 
 pub count-spec : {M : Type 1} → statement M
 count-spec = tie.close (tie.spec fits-requires returns shared-slice-read-entries returns-2)

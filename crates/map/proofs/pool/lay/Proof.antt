@@ -5,13 +5,13 @@ use lib.ListN.{length, length-set}
 use borrow.Author.Needs.{needs}
 use Rattle.model.specs.Layout.{today, firstWord}
 use Rattle.model.proofs.Lawful.{allowed-facts}
-use Rattle.map.proofs.Making.{lay-written}
+use Rattle.map.proofs.Making.{laid-fresh}
 use Rattle.map.proofs.pool.lay.Statement.{statement}
 use Rattle.map.proofs.pool.lay.Tie as tie
 
 -- there is room for the head and the map
 long : (c : tie.Start) → firstWord today 0 ≤ length (c .args .pool .now)
-long c = omega (arith, allowed-facts today _ (c .pre .0))
+long c = omega (arith, allowed-facts today _ (c .pre))
 
 pages-in-requires : tie.Need-pages-in-requires
 pages-in-requires c κs = long (c .before .before)
@@ -44,7 +44,7 @@ returns : tie.Need-returns
 returns c =
     let start = c .before .before .before .before .before .before .before in
     let w = start .args .pool .now in
-    lay-written w _ _ (start .args .kind) (start .pre .0) (c .before .before .zero .ensures) (c .before .before .before .before .pages-in .ensures)
+    laid-fresh w _ _ (start .args .kind) (start .pre) (c .before .before .zero .ensures) (c .before .before .before .before .pages-in .ensures)
 
 pub lay-spec : {M : Type 1} → statement M
 lay-spec =

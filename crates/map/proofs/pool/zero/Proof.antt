@@ -4,8 +4,10 @@ use Prim.Native.Nat.{_≤_, _-_}
 use native.Mathlib.Omega.{arith}
 use lib.ListN.{length, take, length-set}
 use borrow.Author.Needs.{needs}
-use Rattle.model.proofs.Lists.{length-tab}
-use Rattle.map.proofs.Making.{zeros, zeros-word, laid-one, laid-all}
+use Rattle.model.proofs.Basics.{length-tab}
+use Rattle.model.specs.Basics.{zeros}
+use Rattle.model.proofs.Making.{zeros-word}
+use Rattle.map.proofs.Making.{laid-one, laid-all}
 use Rattle.map.proofs.pool.zero.Statement.{statement}
 use Rattle.map.proofs.pool.zero.Tie as tie
 

@@ -1,4 +1,5 @@
--- `set::contains` meets its contract: the tree's search answers, and an absent key has taken all levels. Assumes nothing.
+-- `set::contains` meets its contract: the tree's search answers, and an absent key has taken all levels. Assumes
+-- nothing.
 use mathlib.Core.Path.{_≡_, refl, sym, ap, _∙_}
 use borrow.Author.Needs.{needs}
 use Rattle.model.specs.Refusal.{refusal, setKind}
@@ -6,6 +7,7 @@ use Rattle.model.specs.MapCalls.{readTests}
 use Rattle.model.specs.SetCalls.{setContains}
 use Rattle.map.specs.Answers.{earlyNumber}
 use Rattle.model.proofs.Meets.{passes-reading}
+use Rattle.model.proofs.Reading.{pages-refused}
 use Rattle.map.proofs.Calling.{meets-refused, get-unsound, set-contains-present, set-contains-absent}
 use Rattle.map.proofs.set.contains.Statement.{statement}
 use Rattle.map.proofs.set.contains.Tie as tie
@@ -20,7 +22,7 @@ returns : tie.Need-returns
 returns c =
     let a = c .before .before .before .before .before .args in
     let told = c .before .n .given in
-    meets-refused (setContains (a .key)) (a .pool .now) (told .0 .0) (λ w p. (refl, refl)) (sym (ap earlyNumber (told .1)) ∙ c .before .before .before .reading .ensures)
+    pages-refused (meets-refused (setContains (a .key)) (a .pool .now) (told .0 .0) (λ w p. (refl, refl)) (sym (ap earlyNumber (told .1)) ∙ c .before .before .before .reading .ensures))
 
 enum-told : tie.Need-enum-told
 enum-told c = search needs

@@ -1,4 +1,5 @@
--- `set::insert` meets its contract: a key that is there stays as it is, another is put in with the value 0. Assumes nothing.
+-- `set::insert` meets its contract: a key that is there stays as it is, another is put in with the value 0. Assumes
+-- nothing.
 use mathlib.Core.Path.{_≡_, refl, sym, ap, _∙_}
 use borrow.Author.Needs.{needs}
 use Rattle.model.specs.Refusal.{refusal, setKind}
@@ -35,7 +36,7 @@ passed : (c : tie.After-enum-told) → 0 ≡ refusal (changeTests setKind (c .be
 passed c = sym (ap earlyNumber (c .enum-told .given .1)) ∙ c .before .before .changing .ensures
 
 add-requires : tie.Need-add-requires
-add-requires c κs = passes-changing setKind _ (sym (passed (c .before))) .0
+add-requires c κs = let p = passes-changing setKind _ (sym (passed (c .before))) in (p .0, p .2)
 
 enum-told-2 : tie.Need-enum-told-2
 enum-told-2 c = search needs

@@ -35,7 +35,7 @@ passed : (c : tie.After-enum-told) → 0 ≡ refusal (changeTests setKind (c .be
 passed c = sym (ap earlyNumber (c .enum-told .given .1)) ∙ c .before .before .changing .ensures
 
 strike-requires : tie.Need-strike-requires
-strike-requires c κs = passes-changing setKind _ (sym (passed (c .before))) .0
+strike-requires c κs = let p = passes-changing setKind _ (sym (passed (c .before))) in (p .0, p .2)
 
 enum-told-2 : tie.Need-enum-told-2
 enum-told-2 c = search needs

@@ -7,7 +7,7 @@ use Rattle.moorpontoon.proofs.cursor_calls.mp_cursor_peek_next.Statemen
 use Rattle.moorpontoon.proofs.cursor_calls.mp_cursor_peek_next.Tie as tie
 
 returns : tie.Need-returns
-returns c = exported-short (c .if1 .taken) refl tt
+returns c = exported-short (c .if1 .taken) refl refl
 
 peek-next-requires : tie.Need-peek-next-requires
 peek-next-requires c κs = search needs

@@ -7,7 +7,7 @@ use Rattle.moorpontoon.proofs.cursor_calls.mp_cursor_peek_prev.Statemen
 use Rattle.moorpontoon.proofs.cursor_calls.mp_cursor_peek_prev.Tie as tie
 
 returns : tie.Need-returns
-returns c = exported-short (c .if1 .taken) refl tt
+returns c = exported-short (c .if1 .taken) refl refl
 
 peek-prev-requires : tie.Need-peek-prev-requires
 peek-prev-requires c κs = search needs

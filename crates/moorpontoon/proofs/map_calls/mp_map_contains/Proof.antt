@@ -7,7 +7,7 @@ use Rattle.moorpontoon.proofs.map_calls.mp_map_contains.Statement.{stat
 use Rattle.moorpontoon.proofs.map_calls.mp_map_contains.Tie as tie
 
 returns : tie.Need-returns
-returns c = exported-short (c .if1 .taken) refl tt
+returns c = exported-short (c .if1 .taken) refl refl
 
 contains-requires : tie.Need-contains-requires
 contains-requires c κs = search needs

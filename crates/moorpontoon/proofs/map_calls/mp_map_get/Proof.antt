@@ -7,7 +7,7 @@ use Rattle.moorpontoon.proofs.map_calls.mp_map_get.Statement.{statement
 use Rattle.moorpontoon.proofs.map_calls.mp_map_get.Tie as tie
 
 returns : tie.Need-returns
-returns c = exported-short (c .if1 .taken) refl tt
+returns c = exported-short (c .if1 .taken) refl refl
 
 get-requires : tie.Need-get-requires
 get-requires c κs = search needs

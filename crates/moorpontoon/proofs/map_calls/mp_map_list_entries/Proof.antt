@@ -7,7 +7,7 @@ use Rattle.moorpontoon.proofs.map_calls.mp_map_list_entries.Statement.{
 use Rattle.moorpontoon.proofs.map_calls.mp_map_list_entries.Tie as tie
 
 returns : tie.Need-returns
-returns c = exported-short (c .if1 .taken) refl (refl, refl)
+returns c = exported-short (c .if1 .taken) refl (refl, (refl, tt))
 
 entries-requires : tie.Need-entries-requires
 entries-requires c κs = search needs

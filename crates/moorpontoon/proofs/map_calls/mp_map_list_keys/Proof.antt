@@ -7,7 +7,7 @@ use Rattle.moorpontoon.proofs.map_calls.mp_map_list_keys.Statement.{sta
 use Rattle.moorpontoon.proofs.map_calls.mp_map_list_keys.Tie as tie
 
 returns : tie.Need-returns
-returns c = exported-short (c .if1 .taken) refl refl
+returns c = exported-short (c .if1 .taken) refl (refl, tt)
 
 keys-requires : tie.Need-keys-requires
 keys-requires c κs = search needs

@@ -7,7 +7,7 @@ use Rattle.moorpontoon.proofs.map_calls.mp_map_list_values.Statement.{s
 use Rattle.moorpontoon.proofs.map_calls.mp_map_list_values.Tie as tie
 
 returns : tie.Need-returns
-returns c = exported-short (c .if1 .taken) refl refl
+returns c = exported-short (c .if1 .taken) refl (refl, tt)
 
 values-requires : tie.Need-values-requires
 values-requires c κs = search needs

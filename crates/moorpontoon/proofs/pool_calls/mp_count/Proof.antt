@@ -7,7 +7,7 @@ use Rattle.moorpontoon.proofs.pool_calls.mp_count.Statement.{statement}
 use Rattle.moorpontoon.proofs.pool_calls.mp_count.Tie as tie
 
 returns : tie.Need-returns
-returns c = exported-short (c .if1 .taken) refl tt
+returns c = exported-short (c .if1 .taken) refl refl
 
 count-requires : tie.Need-count-requires
 count-requires c κs = search needs

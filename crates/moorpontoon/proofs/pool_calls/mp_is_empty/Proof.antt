@@ -7,7 +7,7 @@ use Rattle.moorpontoon.proofs.pool_calls.mp_is_empty.Statement.{stateme
 use Rattle.moorpontoon.proofs.pool_calls.mp_is_empty.Tie as tie
 
 returns : tie.Need-returns
-returns c = exported-short (c .if1 .taken) refl tt
+returns c = exported-short (c .if1 .taken) refl refl
 
 is-empty-requires : tie.Need-is-empty-requires
 is-empty-requires c κs = search needs

@@ -7,7 +7,7 @@ use Rattle.moorpontoon.proofs.set_calls.mp_set_get.Statement.{statement
 use Rattle.moorpontoon.proofs.set_calls.mp_set_get.Tie as tie
 
 returns : tie.Need-returns
-returns c = exported-short (c .if1 .taken) refl tt
+returns c = exported-short (c .if1 .taken) refl refl
 
 get-requires : tie.Need-get-requires
 get-requires c κs = search needs

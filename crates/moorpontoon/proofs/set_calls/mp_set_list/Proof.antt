@@ -7,7 +7,7 @@ use Rattle.moorpontoon.proofs.set_calls.mp_set_list.Statement.{statemen
 use Rattle.moorpontoon.proofs.set_calls.mp_set_list.Tie as tie
 
 returns : tie.Need-returns
-returns c = exported-short (c .if1 .taken) refl refl
+returns c = exported-short (c .if1 .taken) refl (refl, tt)
 
 list-requires : tie.Need-list-requires
 list-requires c κs = search needs

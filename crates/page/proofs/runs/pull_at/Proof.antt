@@ -4,9 +4,9 @@ use Prim.Native.Nat.{_+_, _-_}
 use native.Mathlib.Omega.{arith}
 use lib.ListN.{length}
 use borrow.Author.Needs.{needs}
-use Rattle.model.specs.Lists.{del}
+use Rattle.model.specs.Basics.{del}
 use Rattle.page.specs.Runs.{part}
-use Rattle.model.proofs.Lists.{length-del}
+use Rattle.model.proofs.Basics.{length-del}
 use Rattle.page.proofs.Parts.{lent, shorter, changed, length-part}
 use Rattle.page.proofs.runs.pull_at.Statement.{statement}
 use Rattle.page.proofs.runs.pull_at.Tie as tie

@@ -1,4 +1,5 @@
--- `page::runs::pull_out` meets its contract. The invariant: without the word at `max at i`, which is not wanted any more, there is what was to be made. Assumes nothing.
+-- `page::runs::pull_out` meets its contract. The invariant: without the word at `max at i`, which is not wanted any
+-- more, there is what was to be made. Assumes nothing.
 use mathlib.Core.Path.{_≡_, refl, sym, ap, ap₂, _∙_}
 use mathlib.Core.List.{_++_}
 use Prim.Native.Nat.{ℕ, _<_, _-_, max}
@@ -7,8 +8,8 @@ use lib.Dec.{leb}
 use lib.ListN.{length, drop, length-set, take-append-drop}
 use lib.Seq.{drop-set-lt}
 use borrow.Author.Needs.{needs}
-use Rattle.model.specs.Lists.{del}
-use Rattle.page.proofs.Lists.{down-turn, del-last, byte-most}
+use Rattle.model.specs.Basics.{del}
+use Rattle.page.proofs.Running.{down-turn, del-last, byte-most}
 use Rattle.page.proofs.runs.pull_out.Statement.{statement}
 use Rattle.page.proofs.runs.pull_out.Tie as tie
 

@@ -5,9 +5,9 @@ use Prim.Native.Nat.{ℕ, suc, _+_, _-_}
 use native.Mathlib.Omega.{arith}
 use lib.ListN.{length}
 use borrow.Author.Needs.{needs}
-use Rattle.model.specs.Lists.{ins}
+use Rattle.model.specs.Basics.{ins}
 use Rattle.page.specs.Runs.{part}
-use Rattle.model.proofs.Lists.{length-ins}
+use Rattle.model.proofs.Basics.{length-ins}
 use Rattle.page.proofs.Parts.{lent, front, changed, length-part}
 use Rattle.page.proofs.runs.push_at.Statement.{statement}
 use Rattle.page.proofs.runs.push_at.Tie as tie

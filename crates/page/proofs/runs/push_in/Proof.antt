@@ -1,4 +1,5 @@
--- `page::runs::push_in` meets its contract. The invariant: without the word at `max at i`, which is not wanted any more, there are the words of before but for the last.
+-- `page::runs::push_in` meets its contract. The invariant: without the word at `max at i`, which is not wanted any
+-- more, there are the words of before but for the last.
 -- Assumes nothing.
 use mathlib.Core.Path.{_≡_, refl, ap, _∙_}
 use mathlib.Core.List.{List}
@@ -7,8 +8,8 @@ use native.Mathlib.Omega.{arith}
 use lib.Dec.{ltb}
 use lib.ListN.{length, take, length-set}
 use borrow.Author.Needs.{needs}
-use Rattle.model.specs.Lists.{ins, del}
-use Rattle.page.proofs.Lists.{up-turn, del-last, set-ins, byte-most}
+use Rattle.model.specs.Basics.{ins, del}
+use Rattle.page.proofs.Running.{up-turn, del-last, set-ins, byte-most}
 use Rattle.page.proofs.runs.push_in.Statement.{statement}
 use Rattle.page.proofs.runs.push_in.Tie as tie
 

@@ -10,14 +10,14 @@ use borrow.Author.Needs.{needs}
 use borrow.Author.Tests.{not-true, not-false, leb-true}
 use borrow.Fn.Kinds.{In}
 use borrow.Fn.PlainCycle.{Measures, is, falls, and}
-use Rattle.model.specs.Lists.{every}
+use Rattle.model.specs.Basics.{every}
 use Rattle.model.specs.Page.{countOf}
 use Rattle.lend.specs.Pages.{least, most, pageIn}
 use Rattle.tree.specs.declared.check.Tally.{Tally}
 use Rattle.tree.specs.declared.search.Below.the-variants as below
 use Rattle.tree.specs.Search.{belowOf}
 use Rattle.tree.specs.Check.{standTests, Walks}
-use Rattle.model.proofs.Lists.{every-true}
+use Rattle.model.proofs.Basics.{every-true}
 use Rattle.tree.proofs.Walking.{Going, Child, stand-broken, going-start, child-none, child-some, below-found, below-broken, walk-broken, entry-broken, going-step, going-end}
 use Rattle.tree.proofs.check.+walk.{statement}
 use Rattle.tree.proofs.check.walk.Kinds as walk-kinds

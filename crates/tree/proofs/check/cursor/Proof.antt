@@ -79,7 +79,7 @@ returns-4 c =
     let some = past .if3 .left in
     let root = root-there w (s .pre) some in
     cursor-lost w (s .pre) (past .before .before .before .before .if1 .left) (levelsWord w - 1) (rootWord w - 1) (omega arith) (root .is)
-    (c .before .get-below .result) (c .before .get-below .ensures) (λ v m e. other-tag (ap (tagOf the-type) e) (c .match .keys2))
+    (c .before .get-below .result) (c .before .get-below .ensures .0) (λ v m e. other-tag (ap (tagOf the-type) e) (c .match .keys2))
 
 returns-5 : tie.Need-returns-5
 returns-5 c =
@@ -91,7 +91,7 @@ returns-5 c =
     let root = root-there w (s .pre) some in
     cursor-found w (s .pre) (past .before .before .before .before .if1 .left) (levelsWord w - 1) (rootWord w - 1) (omega arith) (root .is)
     (c .enum-told .given .0 .0) (c .enum-told .given .0 .1 .0) (past .before .before .if2 .left)
-    (subst (λ (r : Got). GetsBelow w (rootWord w - 1) (levelsWord w - 1) (keyWord w) 0 r) (c .enum-told .given .1) (call .get-below .ensures))
+    (subst (λ (r : Got). GetsBelow w (rootWord w - 1) (levelsWord w - 1) (keyWord w) 0 r) (c .enum-told .given .1) (call .get-below .ensures .0))
 
 pub cursor-spec : {M : Type 1} → statement M
 cursor-spec =

@@ -12,7 +12,7 @@ use Rattle.model.specs.Head.{geometryOf}
 use Rattle.lend.specs.Touches.{Sized}
 use Rattle.lend.specs.Pages.{least}
 use Rattle.tree.specs.Insert.{freesIn}
-use Rattle.model.proofs.Lists.{front-word}
+use Rattle.model.proofs.Basics.{front-word}
 use Rattle.model.proofs.Head.{head-facts}
 use Rattle.lend.proofs.Fitting.{headed-sized}
 use Rattle.tree.proofs.Inserting.{Topped, topped-long, topped-count, inserts-full, inserts-done}

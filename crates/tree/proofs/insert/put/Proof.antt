@@ -6,7 +6,7 @@ use borrow.Author.Needs.{needs}
 use Rattle.model.specs.Tree.{entry}
 use Rattle.model.specs.Page.{countOf}
 use Rattle.pagemap.specs.declared.Lowest.{Lowest}
-use Rattle.pagemap.specs.Lowest.{firstOf, took}
+use Rattle.pagemap.specs.Lowest.{lowestOf, took}
 use Rattle.page.specs.declared.Parting.{Parting}
 use Rattle.page.specs.Node.{wider}
 use Rattle.lend.specs.Pages.{most, nodeIn, canSplit, SplitsIn, pageIn, mapIn}
@@ -64,7 +64,7 @@ took-is : (c : tie.After-take-lowest) (r : Lowest) → c .take-lowest .result �
     → MapBecomes (took (mapIn (start c .args .pool .now)) r) (start c .args .pool .now) (c .take-lowest .last .0)
 took-is c r e = subst (λ (r : Lowest). MapBecomes (took (mapIn (start c .args .pool .now)) r) (start c .args .pool .now) (c .take-lowest .last .0)) e (c .take-lowest .ensures .1)
 
-found : (c : tie.After-take-lowest) (r : Lowest) → c .take-lowest .result ≡ r → firstOf (freesIn (start c .args .pool .now)) ≡ r
+found : (c : tie.After-take-lowest) (r : Lowest) → c .take-lowest .result ≡ r → lowestOf (freesIn (start c .args .pool .now)) ≡ r
 found c r e = sym (c .take-lowest .ensures .0) ∙ e
 
 returns-2 : tie.Need-returns-2

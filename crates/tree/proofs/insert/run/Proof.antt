@@ -1,11 +1,12 @@
--- `insert::run` meets its contract. The loop's invariant: the pages behind those that are left are full, and belong to the run. Assumes nothing.
+-- `insert::run` meets its contract. The loop's invariant: the pages behind those that are left are full, and belong to
+-- the run. Assumes nothing.
 use mathlib.Core.Path.{_≡_}
 use Prim.Native.Nat.{ℕ, suc, _-_, _<_}
 use native.Mathlib.Omega.{arith}
 use lib.ListN.{length}
 use borrow.Author.Needs.{needs}
 use Rattle.lend.specs.Pages.{Inside}
-use Rattle.model.proofs.Lists.{all-at}
+use Rattle.model.proofs.Basics.{all-at}
 use Rattle.tree.proofs.Running.{Counted, counted-none, counted-room, counted-full, counted-all}
 use Rattle.tree.proofs.insert.run.Statement.{statement}
 use Rattle.tree.proofs.insert.run.Tie as tie

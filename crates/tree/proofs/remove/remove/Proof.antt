@@ -10,7 +10,7 @@ use Rattle.model.specs.Layout.{headWords, firstWord, word, today}
 use Rattle.model.specs.Head.{geometryOf}
 use Rattle.lend.specs.Pages.{Inside}
 use Rattle.lend.specs.Touches.{Sized}
-use Rattle.model.proofs.Lists.{all-at, front-word}
+use Rattle.model.proofs.Basics.{all-at, front-word}
 use Rattle.model.proofs.Head.{head-facts}
 use Rattle.lend.proofs.Fitting.{headed-sized}
 use Rattle.tree.proofs.Removing.{levels-some, count-some, removes-none, removes-refused, removes-done}

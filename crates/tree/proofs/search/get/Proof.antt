@@ -4,6 +4,7 @@ use Prim.Native.Nat.{_-_}
 use native.Mathlib.Omega.{arith}
 use borrow.Author.Needs.{needs}
 use Rattle.model.specs.Head.{levelsWord}
+use Rattle.model.proofs.Cases.{never}
 use Rattle.lend.proofs.Fitting.{head-long, head-levels, head-root}
 use Rattle.tree.proofs.Seeking.{get-none, get-whole}
 use Rattle.tree.proofs.search.get.Statement.{statement}
@@ -13,7 +14,7 @@ shared-slice-read-levels : tie.Need-shared-slice-read-levels
 shared-slice-read-levels c = omega (arith, head-long (c .before .before .args .pool .now) (c .before .before .pre))
 
 returns : tie.Need-returns
-returns c = get-none _ _ (c .if1 .taken)
+returns c = (get-none _ _ (c .if1 .taken), λ v n e. never (cc))
 
 shared-slice-read-root : tie.Need-shared-slice-read-root
 shared-slice-read-root c = omega (arith, head-long (c .before .before .before .before .args .pool .now) (c .before .before .before .before .pre))
@@ -35,7 +36,8 @@ returns-2 : tie.Need-returns-2
 returns-2 c =
     let a = c .before .before .before .before .before .args in
     let some = c .before .before .if1 .left in
-    get-whole (a .pool .now) (a .key) (levelsWord (a .pool .now) - 1) _ (omega arith) refl (c .get-below .ensures)
+    let got = c .get-below .ensures in
+    (get-whole (a .pool .now) (a .key) (levelsWord (a .pool .now) - 1) _ (omega arith) refl (got .0), λ v n e. omega (arith, got .1 v n e))
 
 pub get-spec : {M : Type 1} → statement M
 get-spec =

@@ -1,4 +1,5 @@
--- `search::get_below` meets its contract. The loop keeps what is left to do: what the search from the page at hand answers, the whole search answers. Assumes nothing.
+-- `search::get_below` meets its contract. The loop keeps what is left to do: what the search from the page at hand
+-- answers, the whole search answers; and pages read and levels left add up to the levels. Assumes nothing.
 use mathlib.Core.Path.{_≡_, refl, sym, ap, _∙_}
 use Prim.Native.Nat.{_+_, _-_}
 use native.Mathlib.Omega.{arith}
@@ -7,6 +8,7 @@ use Rattle.model.specs.Tree.{Entry}
 use Rattle.lend.specs.Pages.{Inside}
 use Rattle.tree.specs.declared.search.Got.{Got}
 use Rattle.tree.specs.Search.{GetsBelow}
+use Rattle.model.proofs.Cases.{never}
 use Rattle.lend.proofs.Lent.{page-inside}
 use Rattle.tree.proofs.Searching.{here-few, below-inside, get-unsound, get-here, get-absent, get-lost, get-down}
 use Rattle.tree.proofs.search.get_below.Statement.{statement}
@@ -31,7 +33,7 @@ enum-told c = search needs
 returns : tie.Need-returns Inv-loop μ-loop
 returns c =
     let looked = c .before .before in
-    looked .before .loop .inv .2 _ (get-unsound _ _ _ _ _ (sym (looked .look .ensures) ∙ c .enum-told .given .1))
+    (looked .before .loop .inv .2 _ (get-unsound _ _ _ _ _ (sym (looked .look .ensures) ∙ c .enum-told .given .1)), λ v n e. never (cc))
 
 enum-known-i : tie.Need-enum-known-i Inv-loop μ-loop
 enum-known-i c = search needs
@@ -48,7 +50,10 @@ returns-2 : tie.Need-returns-2 Inv-loop μ-loop
 returns-2 c =
     let place = c .before .before in
     let looked = place .before .before in
-    looked .before .loop .inv .2 _ (get-here _ _ _ _ _ _ (sym (looked .look .ensures) ∙ place .i .given .1) (ap (λ (x : Entry). x .value) (c .entry-at .ensures)))
+    let here = looked .before .loop in (
+      here .inv .2 _ (get-here _ _ _ _ _ _ (sym (looked .look .ensures) ∙ place .i .given .1) (ap (λ (x : Entry). x .value) (c .entry-at .ensures))),
+      λ v n e. let last : here .read + 1 ≡ n = cc in omega (arith, here .inv .1),
+    )
 
 enum-known-i-2 : tie.Need-enum-known-i-2 Inv-loop μ-loop
 enum-known-i-2 c = search needs
@@ -57,7 +62,7 @@ returns-3 : tie.Need-returns-3 Inv-loop μ-loop
 returns-3 c =
     let place = c .before .before in
     let looked = place .before .before in
-    looked .before .loop .inv .2 _ (get-absent _ _ _ _ _ _ (sym (looked .look .ensures) ∙ place .i2 .given .1) (c .if1 .taken))
+    (looked .before .loop .inv .2 _ (get-absent _ _ _ _ _ _ (sym (looked .look .ensures) ∙ place .i2 .given .1) (c .if1 .taken)), λ v n e. never (cc))
 
 child-requires : tie.Need-child-requires Inv-loop μ-loop
 child-requires c κs = search needs
@@ -70,9 +75,11 @@ returns-4 c =
     let branch = c .before .before .before in
     let place = branch .before .before in
     let looked = place .before .before in
-    let tall = branch .if1 .left in
-    looked .before .loop .inv .2 _ (get-lost _ _ _ _ _ _ (sym (looked .look .ensures) ∙ place .i2 .given .1) (omega arith)
-    (sym (c .before .before .child .ensures) ∙ c .enum-told2 .given .1))
+    let tall = branch .if1 .left in (
+      looked .before .loop .inv .2 _ (get-lost _ _ _ _ _ _ (sym (looked .look .ensures) ∙ place .i2 .given .1) (omega arith)
+          (sym (c .before .before .child .ensures) ∙ c .enum-told2 .given .1)),
+      λ v n e. never (cc),
+    )
 
 enum-known-c : tie.Need-enum-known-c Inv-loop μ-loop
 enum-known-c c = search needs

@@ -1,9 +1,10 @@
--- `set::list` writes the keys of a set between two bounds: the values go into a slice of no length. Assumes nothing.
+-- `list::keys_of` writes the keys of a pool between two bounds: the values go into a slice of no length. Assumes
+-- nothing.
 use mathlib.Core.Path.{refl}
 use borrow.Author.Needs.{needs}
 use Rattle.map.proofs.Spanning.{lists-keys}
-use Rattle.map.proofs.set.list.Statement.{statement}
-use Rattle.map.proofs.set.list.Tie as tie
+use Rattle.map.proofs.list.keys_of.Statement.{statement}
+use Rattle.map.proofs.list.keys_of.Tie as tie
 
 sub-fill : tie.Need-sub-fill
 sub-fill c = search needs
@@ -23,6 +24,6 @@ same-length c = search needs
 returns : tie.Need-returns
 returns c = lists-keys (c .before .before .before .fill .ensures) refl
 
-pub list-spec : {M : Type 1} → statement M
-list-spec =
+pub keys-of-spec : {M : Type 1} → statement M
+keys-of-spec =
     tie.close (tie.spec sub-fill part-none-start part-none-end fill-requires same-length returns)

@@ -1,5 +1,5 @@
--- Runs of words with one more or one less. Each loop's invariant says that what is left to do still gives what was to be made;
--- so each loop has a law for a turn and one for its end.
+-- Runs of words with one more or one less. Each loop's invariant says that what is left to do still gives what was to
+-- be made; so each loop has a law for a turn and one for its end.
 -- Assumes nothing.
 use mathlib.Core.Path.{_≡_, refl, ap, _∙_}
 use mathlib.Core.Bool.{Bool, true, false}
@@ -12,13 +12,13 @@ use lib.ListN.{length, take, getD, set, drop-of-length-le}
 use lib.Seq.{set-getD}
 use borrow.Author.Tests.{ltb-true, ltb-false, leb-true, leb-false}
 use mir.Val.{boolByte}
-use Rattle.model.specs.Lists.{ins, del}
+use Rattle.model.specs.Basics.{ins, del}
 
 -- ---- one more, one less
 
 module _ {A : Type 0} where
-  -- Both loops store at each place: where nothing moves, a word over itself. The one word that is not wanted any more stands at the higher of `at` and `i`;
-  -- what is left without it is the same before and after a turn.
+  -- Both loops store at each place: where nothing moves, a word over itself. The one word that is not wanted any more
+  -- stands at the higher of `at` and `i`; what is left without it is the same before and after a turn.
   up-one : (xs : List A) (i : ℕ) (d : A) → suc i < length xs → del i (set xs (suc i) (getD xs i d)) ≡ del (suc i) xs
   up-one [] i d h = absurd (omega arith)
   up-one (x ∷ []) i d h = absurd (omega arith)

@@ -43,10 +43,9 @@ module _ {A : Type 0} where
   final d [] = d
   final d (x ∷ xs) = final x xs
 
--- f 0 + f 1 + .. + f (n - 1)
-unfoldable pub sumTo : (ℕ → ℕ) → ℕ → ℕ
-sumTo f zero = 0
-sumTo f (suc n) = sumTo f n + f n
+-- n words that are 0
+abbrev pub zeros : ℕ → List ℕ
+zeros n = tab n (λ i. 0)
 
 -- 1 where the two are equal, else 0
 unfoldable pub same : ℕ → ℕ → ℕ

@@ -9,7 +9,7 @@ use native.Mathlib.Nat.{zero-add, suc-add}
 use native.Mathlib.Omega.{arith}
 use lib.ListN.{length, take, drop, getD, set, length-append, length-take, length-drop, getElem?, List·getD-append}
 use lib.Seq.{take-append-le, drop-append-le, take-append-add, drop-append-add, split-at, drop-cons, set-split, set-append-left, set-append-seam, length-take-le, getD-at, getD-take, map-set-same, take-take, take-all}
-use Rattle.model.specs.Lists.{ins, splice, tab, All, final, every, del}
+use Rattle.model.specs.Basics.{ins, splice, tab, All, final, every, del}
 use Rattle.model.proofs.Cases.{either-lt, never}
 use Rattle.model.proofs.Cases.{contrary, either-le, never}
 
