@@ -1,5 +1,5 @@
-// The words of a pool, and the commands that print entries, a line each: list, and scrub, which opens the cursor and closes it by itself. Each answer is taken apart, and they go on only
-// with the entry that it carries.
+// The words of a pool, and the commands that print entries, a line each: list, and scrub, which opens the cursor and
+// closes it by itself. Each answer is taken apart, and they go on only with the entry that it carries.
 use crate::answer;
 use crate::command::EXCLUDED;
 use crate::command::INCLUDED;
@@ -32,22 +32,27 @@ pub fn is_set(pool: &[u64]) -> bool {
 
 // ---- list
 
-// The first entry between two bounds, of a pool of its own kind.
+// The list of a pool of its own kind; a set has no places.
+fn write(
+    pool: &[u64],
+    lower: u64,
+    from: u64,
+    upper: u64,
+    to: u64,
+    ticks: &mut [u64],
+    places: &mut [u64],
+) -> Listed {
+    if is_set(pool) {
+        return map::set::list(pool, lower, from, upper, to, ticks);
+    }
+    map::list::entries(pool, lower, from, upper, to, ticks, places)
+}
+
+// The first entry between two bounds.
 fn first(pool: &[u64], lower: u64, from: u64, upper: u64, to: u64) -> Step {
-    let kind = word(pool, KIND);
     let mut ticks = [0u64; 1];
     let mut places = [0u64; 1];
-    match map::list::fill(
-        pool,
-        kind,
-        lower,
-        from,
-        upper,
-        to,
-        1,
-        &mut ticks,
-        &mut places,
-    ) {
+    match write(pool, lower, from, upper, to, &mut ticks, &mut places) {
         Listed::Refused(why) => Step::Refused(why),
         Listed::Wrote(n) => {
             if n == 0 {
