@@ -1,5 +1,6 @@
-// What the programs share. The table: a place for every key, 0 where it has none. An ordered map by itself, for its places are in key order. A place past its end has no entry, and
-// nothing is stored there. Numbers at random (`random`), and words printed with a number.
+// What the programs share. The table: a place for every key, 0 where it has none. An ordered map by itself, for its
+// places are in key order. A place past its end has no entry, and nothing is stored there. Numbers at random
+// (`random`), and texts printed with numbers.
 ghost use Prim.Native.Nat.{_≤_};
 
 pub mod random;
@@ -79,17 +80,6 @@ pub fn held(table: &[u64], first: usize, last: usize) -> usize {
     n
 }
 
-// Whether an entry is that of the place.
-pub fn is_at(key: u64, value: u64, table: &[u64], place: usize) -> bool {
-    if table.len() <= place {
-        return false;
-    }
-    if key != key_of(place) {
-        return false;
-    }
-    value == table[place]
-}
-
 pub fn lesser(a: usize, b: usize) -> usize
     ensures { λ r. ⌜ (r ≤ a) × (r ≤ b) ⌝ }
 {
@@ -110,4 +100,35 @@ pub fn word(keys: bool, table: &[u64], place: usize) -> u64 {
 pub fn say(text: &[u8], number: u64) {
     io::write_all(STDOUT_FILENO, text);
     io::print_decimal(STDOUT_FILENO, number);
+}
+
+// A byte of a text as it is, or the number that a capital stands for: A for the first, B for the second.
+fn put_byte(byte: u8, numbers: &[u64]) {
+    if byte < b'A' {
+        write_byte(byte);
+    } else if b'Z' < byte {
+        write_byte(byte);
+    } else {
+        io::print_decimal(STDOUT_FILENO, value_at(numbers, (byte - b'A') as usize));
+    }
+}
+
+pub fn write_byte(byte: u8) {
+    let bytes = [byte];
+    io::write_all(STDOUT_FILENO, &bytes);
+}
+
+// One of the texts that bars part, counted from 0, with its numbers.
+pub fn print(text: &[u8], which: usize, numbers: &[u64]) {
+    let mut bars: usize = 0;
+    let mut i: usize = 0;
+    while i < text.len() {
+        let byte = text[i];
+        if byte == b'|' {
+            bars = std::num::wrapping_add_usize(bars, 1);
+        } else if bars == which {
+            put_byte(byte, numbers);
+        }
+        i += 1;
+    }
 }

@@ -1,12 +1,15 @@
-// Lists held against the table: between two bounds, into slices of lengths of their own, which entries come, how many, and that no word past them is changed.
+// Lists held against the table: between two bounds, into slices of lengths of their own, which entries come, how many,
+// and that no word past them is changed.
 ghost use Prim.Native.Nat.{_≤_};
-use crate::tally::FIGURES;
-use crate::tally::LISTED;
-use crate::tally::WRONG;
-use crate::tally::add;
-use crate::tally::count;
-use crate::tally::expect;
-use map::list::Listed;
+use crate::calls;
+use crate::calls::Bounds;
+use crate::tally;
+use crate::tally::Outcome;
+use crate::tally::both;
+use crate::tally::seen;
+use crate::told;
+use crate::told::Told;
+use crate::told::same;
 use table::PLACES;
 use table::UNTOUCHED;
 use table::after;
@@ -17,25 +20,20 @@ use table::place_from;
 use table::random;
 use table::word;
 
+// Words of a column.
+const ROOM: usize = 256;
+
 // Two bounds: their kinds, and the places of their keys.
-pub struct Bounds {
+struct Places {
     lower: u64,
     from: usize,
     upper: u64,
     to: usize,
 }
 
-// The whole list's.
-const WHOLE: Bounds = Bounds {
-    lower: 2,
-    from: 0,
-    upper: 2,
-    to: 0,
-};
-
-fn drawn(seed: u64, places: usize) -> Bounds {
+fn drawn(seed: u64, places: usize) -> Places {
     let other = random::next(seed);
-    Bounds {
+    Places {
         lower: random::kind(seed),
         from: random::below(seed, places),
         upper: random::kind(other),
@@ -43,150 +41,124 @@ fn drawn(seed: u64, places: usize) -> Bounds {
     }
 }
 
+fn keys_of(p: Places) -> Bounds {
+    Bounds {
+        lower: p.lower,
+        from: key_of(p.from),
+        upper: p.upper,
+        to: key_of(p.to),
+    }
+}
+
 // The first place that is not before the lower bound.
-fn first(bounds: Bounds) -> usize {
-    let kind = bounds.lower;
+fn first(p: Places) -> usize {
+    let kind = p.lower;
     match kind {
-        0 => bounds.from,
-        1 => after(bounds.from),
+        0 => p.from,
+        1 => after(p.from),
         2.. => 0,
     }
 }
 
 // The first place that is not before the upper bound.
-fn last(bounds: Bounds) -> usize {
-    let kind = bounds.upper;
+fn last(p: Places) -> usize {
+    let kind = p.upper;
     match kind {
-        0 => after(bounds.to),
-        1 => bounds.to,
+        0 => after(p.to),
+        1 => p.to,
         2.. => PLACES,
     }
 }
 
-// Whether a column has the keys, or the values, of the first n entries from a place on, and past them what it had.
-fn is_column(column: &[u64], keys: bool, n: usize, table: &[u64], first: usize) -> bool {
+// The place after the first n entries from a place on, where a column has their keys, or their values, and past them
+// what it had; else one that is none.
+fn column(column: &[u64], keys: bool, n: usize, table: &[u64], first: usize) -> usize {
     let mut place = first;
     let mut i: usize = 0;
     while i < column.len() {
+        let mut want = UNTOUCHED;
         if i < n {
             place = place_from(table, place);
-            if column[i] != word(keys, table, place) {
-                return false;
-            }
+            want = word(keys, table, place);
             place = after(place);
-        } else if column[i] != UNTOUCHED {
-            return false;
+        }
+        if column[i] != want {
+            return PLACES + 1;
         }
         i += 1;
     }
-    true
+    place
 }
 
-// How many a list says that it wrote, where the table has so many between the bounds and the shortest slice is so long.
-fn wrote(
-    listed: Listed,
-    table: &[u64],
-    bounds: Bounds,
-    room: usize,
-    tally: &mut [u64; FIGURES],
-) -> usize {
-    match listed {
-        Listed::Wrote(n) => {
-            expect(
-                tally,
-                n == lesser(held(table, first(bounds), last(bounds)), room),
-            );
-            add(tally, LISTED, n as u64);
-            n
-        }
-        Listed::Refused(_) => {
-            count(tally, WRONG);
-            0
-        }
+// How many words a list has room for: the shorter column's, or its one column's.
+fn room(letter: u8, keys: usize, values: usize) -> usize {
+    match letter {
+        b'E' => lesser(keys, values),
+        b'V' => values,
+        _ => keys,
     }
 }
 
-fn entries(
-    pool: &[u64],
+// How many of so many entries are in the column of keys, and in that of values.
+fn in_keys(letter: u8, n: usize) -> usize {
+    match letter {
+        b'V' => 0,
+        _ => n,
+    }
+}
+
+fn in_values(letter: u8, n: usize) -> usize {
+    match letter {
+        b'E' | b'V' => n,
+        _ => 0,
+    }
+}
+
+// So many entries from a place on are in two columns: as many as there are, and as there is room for.
+fn columns(
+    told: Told,
+    letter: u8,
+    most: usize,
+    keys: &[u64],
+    values: &[u64],
     table: &[u64],
-    bounds: Bounds,
+    from: usize,
+) -> Outcome {
+    let n = lesser(most, room(letter, keys.len(), values.len()));
+    let to = column(keys, true, in_keys(letter, n), table, from);
+    let by_values = column(values, false, in_values(letter, n), table, from);
+    let mut right = same(told, Told(told::LISTED, n as u64, 0));
+    if PLACES < to {
+        right = false;
+    }
+    if PLACES < by_values {
+        right = false;
+    }
+    seen(tally::LISTED, told.1, right, to)
+}
+
+// A list by a letter.
+fn into(
+    pool: &[u64],
+    letter: u8,
+    p: Places,
     keys: &mut [u64],
     values: &mut [u64],
-    tally: &mut [u64; FIGURES],
-) {
-    let room = lesser(keys.len(), values.len());
-    let listed = map::list::entries(
-        pool,
-        bounds.lower,
-        key_of(bounds.from),
-        bounds.upper,
-        key_of(bounds.to),
+    table: &[u64],
+) -> Outcome {
+    let told = calls::list(pool, letter, keys_of(p), keys, values);
+    columns(
+        told,
+        letter,
+        held(table, first(p), last(p)),
         keys,
         values,
-    );
-    let n = wrote(listed, table, bounds, room, tally);
-    expect(tally, is_column(keys, true, n, table, first(bounds)));
-    expect(tally, is_column(values, false, n, table, first(bounds)));
-}
-
-fn keys(pool: &[u64], table: &[u64], bounds: Bounds, keys: &mut [u64], tally: &mut [u64; FIGURES]) {
-    let room = keys.len();
-    let listed = map::list::keys(
-        pool,
-        bounds.lower,
-        key_of(bounds.from),
-        bounds.upper,
-        key_of(bounds.to),
-        keys,
-    );
-    let n = wrote(listed, table, bounds, room, tally);
-    expect(tally, is_column(keys, true, n, table, first(bounds)));
-}
-
-fn values(
-    pool: &[u64],
-    table: &[u64],
-    bounds: Bounds,
-    values: &mut [u64],
-    tally: &mut [u64; FIGURES],
-) {
-    let room = values.len();
-    let listed = map::list::values(
-        pool,
-        bounds.lower,
-        key_of(bounds.from),
-        bounds.upper,
-        key_of(bounds.to),
-        values,
-    );
-    let n = wrote(listed, table, bounds, room, tally);
-    expect(tally, is_column(values, false, n, table, first(bounds)));
-}
-
-fn set_keys(
-    pool: &[u64],
-    table: &[u64],
-    bounds: Bounds,
-    keys: &mut [u64],
-    tally: &mut [u64; FIGURES],
-) {
-    let room = keys.len();
-    let listed = map::set::list(
-        pool,
-        bounds.lower,
-        key_of(bounds.from),
-        bounds.upper,
-        key_of(bounds.to),
-        keys,
-    );
-    let n = wrote(listed, table, bounds, room, tally);
-    expect(tally, is_column(keys, true, n, table, first(bounds)));
+        table,
+        first(p),
+    )
 }
 
 // ---- between bounds at random, into columns of a length at random
-
-// Words of a column.
-const ROOM: usize = 256;
 
 // A length at random, of as many words as the table has places or fewer.
 fn length(seed: u64, places: usize) -> usize
@@ -195,61 +167,82 @@ fn length(seed: u64, places: usize) -> usize
     lesser(random::below(seed, places), ROOM)
 }
 
-fn some_entries(
-    pool: &[u64],
-    table: &[u64],
-    bounds: Bounds,
-    seed: u64,
-    tally: &mut [u64; FIGURES],
-) {
-    let mut ks = [UNTOUCHED; ROOM];
-    let mut vs = [UNTOUCHED; ROOM];
+fn some(pool: &[u64], letter: u8, p: Places, seed: u64, table: &[u64]) -> Outcome {
+    let mut keys = [UNTOUCHED; ROOM];
+    let mut values = [UNTOUCHED; ROOM];
     let a = length(seed, table.len());
-    let b = length(random::next(seed), table.len());
-    entries(pool, table, bounds, &mut ks[0..a], &mut vs[0..b], tally);
+    let mut other = seed;
+    if letter == b'E' {
+        other = random::next(seed);
+    }
+    let b = length(other, table.len());
+    into(pool, letter, p, &mut keys[0..a], &mut values[0..b], table)
 }
 
-fn some_keys(pool: &[u64], table: &[u64], bounds: Bounds, seed: u64, tally: &mut [u64; FIGURES]) {
-    let mut column = [UNTOUCHED; ROOM];
-    let a = length(seed, table.len());
-    keys(pool, table, bounds, &mut column[0..a], tally);
-}
-
-fn some_values(pool: &[u64], table: &[u64], bounds: Bounds, seed: u64, tally: &mut [u64; FIGURES]) {
-    let mut column = [UNTOUCHED; ROOM];
-    let a = length(seed, table.len());
-    values(pool, table, bounds, &mut column[0..a], tally);
-}
-
-pub fn of_map(pool: &[u64], table: &[u64], seed: u64, tally: &mut [u64; FIGURES]) {
-    let bounds = drawn(seed, table.len());
+pub fn of_map(pool: &[u64], table: &[u64], seed: u64) -> Outcome {
+    let p = drawn(seed, table.len());
     let other = random::next(random::next(seed));
-    some_entries(pool, table, bounds, other, tally);
-    some_keys(pool, table, bounds, other, tally);
-    some_values(pool, table, bounds, random::next(other), tally);
+    let entries = some(pool, b'E', p, other, table);
+    let keys = some(pool, b'H', p, other, table);
+    let values = some(pool, b'V', p, random::next(other), table);
+    both(both(entries, keys), values)
 }
 
-pub fn of_set(pool: &[u64], table: &[u64], seed: u64, tally: &mut [u64; FIGURES]) {
-    let mut column = [UNTOUCHED; ROOM];
-    let a = length(random::next(random::next(seed)), table.len());
-    set_keys(
-        pool,
-        table,
-        drawn(seed, table.len()),
-        &mut column[0..a],
-        tally,
-    );
+pub fn of_set(pool: &[u64], table: &[u64], seed: u64) -> Outcome {
+    let other = random::next(random::next(seed));
+    some(pool, b'j', drawn(seed, table.len()), other, table)
 }
 
 // ---- the whole list, with room to spare
 
-pub fn whole_map(pool: &[u64], table: &[u64], tally: &mut [u64; FIGURES]) {
-    let mut ks = [UNTOUCHED; PLACES];
-    let mut vs = [UNTOUCHED; PLACES];
-    entries(pool, table, WHOLE, &mut ks, &mut vs, tally);
+pub fn whole(pool: &[u64], letter: u8, table: &[u64]) -> Outcome {
+    let mut keys = [UNTOUCHED; PLACES];
+    let mut values = [UNTOUCHED; PLACES];
+    let p = Places {
+        lower: 2,
+        from: 0,
+        upper: 2,
+        to: 0,
+    };
+    into(pool, letter, p, &mut keys, &mut values, table)
 }
 
-pub fn whole_set(pool: &[u64], table: &[u64], tally: &mut [u64; FIGURES]) {
-    let mut column = [UNTOUCHED; PLACES];
-    set_keys(pool, table, WHOLE, &mut column, tally);
+// ---- playback
+
+// Words of its slices.
+const SOME: usize = 24;
+
+// The entries from the gap on, which goes over them.
+fn play_into(
+    pool: &mut [u64],
+    keys: &mut [u64],
+    values: &mut [u64],
+    table: &[u64],
+    gap: usize,
+) -> Outcome {
+    let told = told::listed(cursor::play::play(pool, keys, values));
+    columns(
+        told,
+        b'E',
+        held(table, gap, table.len()),
+        keys,
+        values,
+        table,
+        gap,
+    )
+}
+
+// A length at random of a slice.
+fn few(seed: u64) -> usize
+    ensures { λ r. ⌜ r ≤ 24 ⌝ }
+{
+    lesser(random::below(seed, 25), SOME)
+}
+
+pub fn play(pool: &mut [u64], table: &[u64], gap: usize, seed: u64) -> Outcome {
+    let mut keys = [UNTOUCHED; SOME];
+    let mut values = [UNTOUCHED; SOME];
+    let a = few(seed);
+    let b = few(random::next(seed));
+    play_into(pool, &mut keys[0..a], &mut values[0..b], table, gap)
 }

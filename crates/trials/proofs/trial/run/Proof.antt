@@ -7,25 +7,34 @@ use Rattle.trials.proofs.trial.run.Statement.{statement}
 use Rattle.trials.proofs.trial.run.Tie as tie
 
 abbrev Inv-loop : tie.InvT-loop
-Inv-loop pool₀ kind calls table₀ tally₀ seed₀ i₀ pool table tally seed i = (length pool ≡ length pool₀) × (length table ≡ length table₀)
+Inv-loop pool₀ kind calls all table₀ tally₀ seed₀ gap₀ i₀ pool table tally seed gap i = (length pool ≡ length pool₀) × (length table ≡ length table₀)
 
 abbrev μ-loop : tie.MeasureT-loop
-μ-loop pool₀ kind calls table₀ tally₀ seed₀ i₀ pool table tally seed i = calls - i
+μ-loop pool₀ kind calls all table₀ tally₀ seed₀ gap₀ i₀ pool table tally seed gap i = all - i
 
 loop-holds : tie.Need-loop-holds Inv-loop μ-loop
 loop-holds c = search needs
 
-next-requires : tie.Need-next-requires Inv-loop μ-loop
-next-requires c κs = search needs
+add-i : tie.Need-add-i Inv-loop μ-loop
+add-i c = search needs
+
+drawn-requires : tie.Need-drawn-requires Inv-loop μ-loop
+drawn-requires c κs = search needs
 
 one-requires : tie.Need-one-requires Inv-loop μ-loop
 one-requires c κs = search needs
 
+put-requires : tie.Need-put-requires Inv-loop μ-loop
+put-requires c κs = search needs
+
+count-requires : tie.Need-count-requires Inv-loop μ-loop
+count-requires c κs = search needs
+
 look-requires : tie.Need-look-requires Inv-loop μ-loop
 look-requires c κs = search needs
 
-add-i : tie.Need-add-i Inv-loop μ-loop
-add-i c = search needs
+count-requires-2 : tie.Need-count-requires-2 Inv-loop μ-loop
+count-requires-2 c κs = search needs
 
 loop-less : tie.Need-loop-less Inv-loop μ-loop
 loop-less c = search needs
@@ -49,10 +58,13 @@ run-spec =
     Inv-loop
     μ-loop
     loop-holds
-    next-requires
-    one-requires
-    look-requires
     add-i
+    drawn-requires
+    one-requires
+    put-requires
+    count-requires
+    look-requires
+    count-requires-2
     loop-less
     loop-again
     same-length

@@ -1,11 +1,11 @@
 -- `pages::words` ends. Assumes nothing.
-use Prim.Native.Nat.{_-_, _≤_}
+use Prim.Native.Nat.{_-_}
 use borrow.Author.Needs.{needs}
-use Rattle.scrub.proofs.pages.words.Statement.{statement}
-use Rattle.scrub.proofs.pages.words.Tie as tie
+use Rattle.trials.proofs.pages.words.Statement.{statement}
+use Rattle.trials.proofs.pages.words.Tie as tie
 
 abbrev Inv-loop : tie.InvT-loop
-Inv-loop pool first count i₀ t5 i = i ≤ count
+Inv-loop pool first count i₀ t5 i = Unit {0}
 
 abbrev μ-loop : tie.MeasureT-loop
 μ-loop pool first count i₀ t5 i = count - i

@@ -1,5 +1,12 @@
-// A page of a pool, as document 01's bench cases speak of it: free, or the keys that it holds, and whether it is the root.
-use crate::told::write;
+// A page of a pool, as document 01's bench cases speak of it: free, or the keys that it holds, and whether it is the
+// root.
+use crate::told::FREE;
+use crate::told::HOLDS;
+use crate::told::NOTHING;
+use crate::told::ROOT_HOLDS;
+use crate::told::Told;
+use crate::told::plain;
+use crate::told::tell;
 use model::HEAD_WORDS;
 use model::MOST;
 use model::ROOT;
@@ -17,21 +24,20 @@ fn words(pool: &[u64], first: usize, count: usize) {
 }
 
 // One of the first 64 pages, whose bits are in the page map's first word.
-pub fn page(pool: &[u64], p: usize) {
+pub fn page(pool: &[u64], p: usize) -> Told {
     if 63 < p {
-        return;
+        return plain(NOTHING);
     }
     if (value_at(pool, HEAD_WORDS) >> p) % 2 == 0 {
-        say(b" page ", p as u64);
-        write(b" free");
-        return;
+        return Told(FREE, p as u64, 0);
     }
+    let mut word = HOLDS;
     if value_at(pool, ROOT) == p as u64 + 1 {
-        write(b" root");
+        word = ROOT_HOLDS;
     }
-    say(b" page ", p as u64);
-    write(b" holds");
+    tell(Told(word, p as u64, 0));
     let first = model::first_word(p);
     let count = value_at(pool, first) as usize;
     words(pool, first + 2, lesser(count, MOST));
+    plain(NOTHING)
 }

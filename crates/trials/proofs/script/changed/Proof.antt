@@ -1,15 +1,14 @@
--- `corners::changed` stays inside the words and ends. Assumes nothing.
-use Prim.Native.Nat.{_-_, _≤_}
-use lib.ListN.{length}
+-- `script::changed` ends. Assumes nothing.
+use Prim.Native.Nat.{_-_}
 use borrow.Author.Needs.{needs}
-use Rattle.scrub.proofs.corners.changed.Statement.{statement}
-use Rattle.scrub.proofs.corners.changed.Tie as tie
+use Rattle.trials.proofs.script.changed.Statement.{statement}
+use Rattle.trials.proofs.script.changed.Tie as tie
 
 abbrev Inv-loop : tie.InvT-loop
-Inv-loop before pool n₀ i₀ n i = i ≤ length pool
+Inv-loop space other n₀ i₀ n i = Unit {0}
 
 abbrev μ-loop : tie.MeasureT-loop
-μ-loop before pool n₀ i₀ n i = length pool - i
+μ-loop space other n₀ i₀ n i = 192 - i
 
 loop-holds : tie.Need-loop-holds Inv-loop μ-loop
 loop-holds c = search needs
@@ -17,11 +16,11 @@ loop-holds c = search needs
 value-at-requires : tie.Need-value-at-requires Inv-loop μ-loop
 value-at-requires c κs = search needs
 
-mul-if1 : tie.Need-mul-if1 Inv-loop μ-loop
-mul-if1 c = search needs
+wrapping-add-usize-requires : tie.Need-wrapping-add-usize-requires Inv-loop μ-loop
+wrapping-add-usize-requires c κs = search needs
 
-shared-slice-read-if1 : tie.Need-shared-slice-read-if1 Inv-loop μ-loop
-shared-slice-read-if1 c = search needs
+value-at-requires-2 : tie.Need-value-at-requires-2 Inv-loop μ-loop
+value-at-requires-2 c κs = search needs
 
 wrapping-add-u64-requires : tie.Need-wrapping-add-u64-requires Inv-loop μ-loop
 wrapping-add-u64-requires c κs = search needs
@@ -46,8 +45,8 @@ changed-spec =
     μ-loop
     loop-holds
     value-at-requires
-    mul-if1
-    shared-slice-read-if1
+    wrapping-add-usize-requires
+    value-at-requires-2
     wrapping-add-u64-requires
     add-i
     loop-less

@@ -1,9 +1,9 @@
--- `trial::column` stays inside the column and ends. Assumes nothing.
+-- `lists::column` stays inside the column and ends. Assumes nothing.
 use Prim.Native.Nat.{_-_, _≤_}
 use lib.ListN.{length}
 use borrow.Author.Needs.{needs}
-use Rattle.scrub.proofs.trial.column.Statement.{statement}
-use Rattle.scrub.proofs.trial.column.Tie as tie
+use Rattle.trials.proofs.lists.column.Statement.{statement}
+use Rattle.trials.proofs.lists.column.Tie as tie
 
 abbrev Inv-loop : tie.InvT-loop
 Inv-loop column keys n table first place₀ i₀ place i = i ≤ length column
