@@ -1,6 +1,6 @@
 -- Pools made, cleared and copied: words zeroed and copied one after the other, and what `lay` and copy leave.
 -- Assumes nothing.
-use mathlib.Core.Path.{_≡_, sym, ap, subst₂, _∙_}
+use mathlib.Core.Path.{_≡_, sym, ap, _∙_}
 use mathlib.Core.Bool.{true}
 use mathlib.Core.List.{List, _++_}
 use Prim.Native.Nat.{ℕ, _+_, _≤_, _<_}

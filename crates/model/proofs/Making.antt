@@ -23,7 +23,7 @@ use Rattle.model.specs.HeadCalls.{made}
 use Rattle.model.specs.Sound.{Sound}
 use Rattle.model.specs.Written.{Written}
 use Rattle.model.specs.Refusal.{Test, refusal}
-use Rattle.model.specs.Call.{Outcome, refused, answered, given, left, Exact}
+use Rattle.model.specs.Call.{refused, answered, given, left, Exact}
 use Rattle.model.specs.PoolCalls.{makeTests, clearTests, fresh, Makes, Clears}
 use Rattle.model.proofs.Cases.{never}
 use Rattle.model.proofs.Basics.{length-tab}

@@ -5,7 +5,6 @@ use mathlib.Core.Path.{_≡_}
 use mathlib.Core.Bool.{true, false}
 use mathlib.Core.List.{List}
 use Prim.Native.Nat.{ℕ, pred, _≤_}
-use native.Mathlib.Omega.{arith}
 use Rattle.model.specs.Basics.{final}
 use Rattle.model.specs.Layout.{mostEntries}
 use Rattle.model.specs.Head.{leastOf, levelsWord, rootWord}

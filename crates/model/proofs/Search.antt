@@ -10,11 +10,10 @@ use Prim.Native.Nat.{ℕ, zero, suc, _+_, _-_, _≤_, _<_}
 use native.Mathlib.Omega.{arith}
 use lib.Dec.{ltb, leb·suc-suc}
 use lib.ListN.{length, take, drop, getD, length-map}
-use lib.Seq.{drop-cons}
 use borrow.Author.Tests.{le-leb, lt-leb, lt-ltb, le-ltb, eq-eqb, ne-eqb}
-use Rattle.model.specs.Basics.{All, final}
+use Rattle.model.specs.Basics.{final}
 use Rattle.model.specs.Layout.{mostEntries}
-use Rattle.model.specs.Tree.{Entry, Tree, noEntry, noTree, weave, entries, size, Rising, Shaped}
+use Rattle.model.specs.Tree.{Entry, Tree, noEntry, noTree, weave, entries, Rising, Shaped}
 use Rattle.model.specs.Entries.{has, lookup, gapOf, gapBefore}
 use Rattle.model.specs.Page.{entriesOf, childrenOf, readTree}
 use Rattle.model.specs.Gap.{slot, rest, slotAt, restAt, child, childAt}
@@ -22,7 +21,7 @@ use Rattle.model.specs.Search.{at, searchPath}
 use Rattle.model.specs.Path.{gapPages, gapSlots, seekPages, seekSlots, find}
 use Rattle.model.proofs.Cases.{either, either-lt, either-eq, contrary}
 use Rattle.model.proofs.Basics.{all-at, all-map, getD-map}
-use Rattle.model.proofs.Entries.{Falls, falls-below, rising-left, rising-right, rising-lo, all-under, all-above, gap-le, gap-unique, gap-past, gap-within, lookup-past, lookup-within, has-lookup, has-slot, at-true}
+use Rattle.model.proofs.Entries.{Falls, falls-below, rising-left, rising-right, rising-lo, all-under, all-above, gap-le, gap-past, gap-within, lookup-past, lookup-within, has-lookup, has-slot}
 use Rattle.model.proofs.Weave.{left, right, weave-at}
 
 -- ---- one page, over a function `f` that says what a child holds
@@ -41,12 +40,6 @@ module _ {S : Type 0} (f : S → List Entry) where
   pub child-rising : (ss : List S) (es : List Entry) (i : ℕ) (d : S) → length ss ≡ suc (length es) → i < length ss → Rising (weave f ss es)
       → Rising (f (getD ss i d))
   child-rising ss es i d n b r = rising-left (f (getD ss i d)) (right f (drop i es) (drop (suc i) ss)) (child-on ss es i d n b r)
-
-  pub child-below : (ss : List S) (es : List Entry) (i : ℕ) (d : S) → length ss ≡ suc (length es) → i < length es → Rising (weave f ss es)
-      → All (λ x. x .key < getD es i noEntry .key) (f (getD ss i d))
-  child-below ss es i d n b r =
-      rising-lo (f (getD ss i d)) (getD es i noEntry) (weave f (drop (suc i) ss) (drop (suc i) es))
-      (rw (drop-cons es i noEntry b) at (child-on ss es i d n (omega arith) r))
 
   -- the gap of the test in all that the page holds lies in the child at the test's gap among the page's own entries, at
   -- the test's gap there

@@ -13,7 +13,6 @@ use lib.Dec.{eqb}
 use lib.ListN.{length, getD, set, length-map}
 use lib.Seq.{map-set-same}
 use borrow.Author.Tests.{lt-ltb, eq-eqb, ne-eqb}
-use Rattle.model.specs.declared.Geometry.{Geometry}
 use Rattle.model.specs.Basics.{ins, del}
 use Rattle.model.specs.Head.{headed, kindWord, openWord}
 use Rattle.model.specs.Tree.{Entry, entry, noEntry, Rising}

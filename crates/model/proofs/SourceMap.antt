@@ -13,7 +13,6 @@ use lib.Dec.{eqb, ltb}
 use lib.ListN.{length, getD, set, take, drop, take-append-drop, length-map}
 use lib.Seq.{split-at, set-split}
 use borrow.Author.Tests.{eq-eqb, ne-eqb}
-use Rattle.model.specs.declared.Geometry.{Geometry}
 use Rattle.model.specs.Basics.{All, del}
 use Rattle.model.specs.Head.{openWord}
 use Rattle.model.specs.Tree.{Entry, entry, noEntry, Rising, held, entries}
@@ -21,7 +20,7 @@ use Rattle.model.specs.Entries.{has, lookup, gapBefore}
 use Rattle.model.specs.Search.{Found, Seen}
 use Rattle.model.specs.Pool.{Pool, heldBy, poolOf}
 use Rattle.model.specs.Sound.{Sound}
-use Rattle.model.specs.Refusal.{Test, mapKind}
+use Rattle.model.specs.Refusal.{mapKind}
 use Rattle.model.specs.Call.{Call, Outcome, answered, left, number, Meets}
 use Rattle.model.specs.PoolCalls.{Makes, Clears, Copies, Counts, TellsEmpty}
 use Rattle.model.specs.HeadCalls.{poolCount, poolIsEmpty}

@@ -9,11 +9,9 @@ use mathlib.Core.Option.{Option, none, some}
 use mathlib.Core.List.{List}
 use Prim.Native.Nat.{ℕ}
 use lib.Dec.{eqb}
-use Rattle.model.specs.declared.Geometry.{Geometry}
 use Rattle.model.specs.Search.{Found, Seen}
 use Rattle.model.specs.Pool.{poolOf}
 use Rattle.model.specs.Sound.{Sound}
-use Rattle.model.specs.Refusal.{Test}
 use Rattle.model.specs.Call.{answered, Meets}
 use Rattle.model.specs.PoolCalls.{Makes, Clears, Copies, TellsEmpty}
 use Rattle.model.specs.MapCalls.{pagesRead}

@@ -5,8 +5,8 @@ use mathlib.Core.Path.{_≡_, refl, sym, ap, _∙_}
 use mathlib.Core.Bool.{true, false, not}
 use mathlib.Core.Logic.{_⊎_, inl, inr, ⊎-elim, _≢_}
 use mathlib.Core.Option.{Option, none, some}
-use mathlib.Core.List.{List, [], _∷_, _++_, map}
-use Prim.Native.Nat.{ℕ, suc, _+_, _*_, _≤_, _<_}
+use mathlib.Core.List.{List, [], _∷_, map}
+use Prim.Native.Nat.{ℕ, suc, _*_, _≤_, _<_}
 use native.Mathlib.Omega.{arith}
 use lib.Dec.{eqb}
 use lib.ListN.{length, take, length-take}
@@ -59,6 +59,10 @@ module _ {A : Type 0} (c : Call A) (w : List ℕ) (s : Sound w) where
   -- what a call that nothing refuses leaves
   leaves : number c w ≡ 0 → (v : List ℕ) (r : Outcome A) → Meets c w v r → poolOf v ≡ c .after (poolOf w)
   leaves pass v r m = m .holds s ∙ ap (λ (n : ℕ). left n (poolOf w) (c .after (poolOf w))) pass
+
+  -- a pool left that is not the call's: so fails a split that stops one level short
+  pub other-pool-fails : (body : Body A) → number c w ≡ 0 → poolOf (body w .0) ≢ c .after (poolOf w) → Fails c body w
+  other-pool-fails body pass other m = other (leaves pass (body w .0) (body w .1) m)
 
   -- nothing changed: wherever the call changes what the pool holds
   pub nothing-fails : number c w ≡ 0 → c .after (poolOf w) ≢ poolOf w → Fails c (changesNothing c) w

@@ -3,7 +3,7 @@
 -- one page, which stays so (`join`), or is cut again behind n entries (`move`: one goes through the parent).
 -- Assumes nothing: these are definitions.
 use mathlib.Core.Bool.{cond}
-use mathlib.Core.List.{List, [], _∷_, _++_}
+use mathlib.Core.List.{_∷_, _++_}
 use Prim.Native.Nat.{ℕ, zero, suc, _-_}
 use lib.Dec.{leb, ltb}
 use lib.ListN.{length, take, drop, getD}

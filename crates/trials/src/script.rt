@@ -1,7 +1,6 @@
 // Scripts: text that is printed as it stands, and calls on a pool. A call is a mark, a letter, two figures and a key of
 // two figures. After a ~ its answer is printed in words, with a star where a word of the pool has changed; after a + in
 // more words; after a # by its number; after a ^ not at all. The pool is the first words of some; beside it are others.
-ghost use Prim.Native.Nat.{_≤_};
 use crate::calls;
 use crate::calls::Bounds;
 use crate::calls::Call;
