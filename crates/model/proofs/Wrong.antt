@@ -1,5 +1,6 @@
 -- Wrong bodies are refused. Document 01's five, for every sound pool on which they are wrong; its six errors that look
--- right, for whatever body makes them; and for each shape of promise two bodies more. docs/WRONG.md lists them.
+-- right, for whatever body makes them; and for each shape of promise two bodies more, as for what inner contracts say of
+-- a page. docs/WRONG.md lists them.
 -- Assumes nothing.
 use mathlib.Core.Path.{_≡_, refl, sym, ap, _∙_}
 use mathlib.Core.Bool.{true, false, not}
@@ -16,7 +17,9 @@ use Rattle.model.specs.Basics.{All}
 use Rattle.model.specs.Layout.{word}
 use Rattle.model.specs.Head.{geometryOf, countWord, levelsWord, openWord, afterWord, keyWord, kindWord, headed}
 use Rattle.model.specs.PageMap.{mapOf, bitAt}
-use Rattle.model.specs.Tree.{Entry, meets}
+use Rattle.model.specs.Tree.{Entry, Node, meets}
+use Rattle.model.specs.Page.{entriesOf, childrenOf}
+use Rattle.model.specs.Standing.{Holds}
 use Rattle.model.specs.Bound.{Bound, unbounded}
 use Rattle.model.specs.Entries.{has, lookup, gapBefore, gapAfter, gap, keyFits, above, under, between}
 use Rattle.model.specs.Search.{Found}
@@ -253,3 +256,12 @@ module _ (w v : List ℕ) (cs : List Column) (s : Sound w) (pass : refusal (curs
   -- that stops before the entries or the slices do
   pub play-short-fails : (n : ℕ) → n < length (played cs (poolOf w)) → Plays w v cs (answered n) → ⊥
   play-short-fails n short m = let all : n ≡ length (played cs (poolOf w)) = cc (m .exact s pass) in omega arith
+
+-- ---- pages, as the inner contracts speak of them: other entries, other children
+
+module _ (most h : ℕ) (x : Node ℕ) (page : List ℕ) where
+  pub other-entries-fails : entriesOf most page ≢ x .own → Holds most h x page → ⊥
+  other-entries-fails other held = other (held .own)
+
+  pub other-children-fails : 0 < h → childrenOf most page ≢ x .children → Holds most h x page → ⊥
+  other-children-fails upper other held = other (held .children upper)

@@ -33,6 +33,10 @@ module _ {A : Type 0} (words : A → List ℕ) (promise : Outcome A → Type 0) 
   told-zero (answered a) numbered met gives z = (a, met, gives .1)
   told-zero (refused m) numbered met gives z = absurd (numbered (subst (λ (k : ℕ). promise (refused k)) (sym (gives .0) ∙ z) met))
 
+  told-number : (r : Outcome A) → promise r → Gives words r before after n → n ≢ 0 → promise (refused n)
+  told-number (answered a) met gives some = absurd (some (gives .0))
+  told-number (refused m) met gives some = subst (λ (k : ℕ). promise (refused k)) (sym (gives .0)) met
+
   told-other : (r : Outcome A) → ((m : ℕ) → promise (refused m) → kept) → promise r → Gives words r before after n → n ≢ 0 → (after ≡ before) × kept
   told-other (answered a) still met gives some = absurd (some (gives .0))
   told-other (refused m) still met gives some = (gives .1, still m met)
@@ -85,6 +89,7 @@ module _ {A : Type 0} (words : A → List ℕ) (before after after′ : List ℕ
     pub exported-decided : Decided words promise kept early decided Same Near before after after′ n m
     exported-decided = record {
       zero = exported-zero words promise kept before after n numbered one;
+      number = λ long some. let a = one .told long in told-number words promise kept before after n (a .0) (a .1) (a .2) some;
       other = exported-other words promise kept before after n still one;
       short = both-short;
       first = λ due. both-told Same (λ e. e) (λ r s a. a .first due);

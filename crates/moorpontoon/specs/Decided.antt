@@ -11,7 +11,7 @@ use Rattle.model.specs.Bound.{boundOf}
 use Rattle.model.specs.Sound.{Sound}
 use Rattle.model.specs.Alike.{Words}
 use Rattle.model.specs.Refusal.{Test, refusal}
-use Rattle.model.specs.Call.{Outcome, answered}
+use Rattle.model.specs.Call.{Outcome, refused, answered}
 use Rattle.model.specs.ListCalls.{Column, fronted, listTests, Lists}
 use Rattle.model.specs.Agree.{LentSame, LeftSame}
 use Rattle.moorpontoon.specs.Words.{amount}
@@ -22,8 +22,9 @@ use Rattle.moorpontoon.specs.Exported.{outWords, Called, ListsCalled}
 -- the same, `Near` that it is but for the words that document 01 frees
 pub record Decided {A : Type 0} (words : A → List ℕ) (promise : Outcome A → Type 0) (kept : Type 0) (early : List Test) (decided Same Near : Type 0)
     (before after after′ : List ℕ) (n m : ℕ) : Type 0 where
-  -- 0 exactly for an answer; any other number leaves every lent word
+  -- 0 exactly for an answer, else the refusal's number or a short `out`; any number but 0 leaves every lent word
   pub zero : n ≡ 0 → (a : A) × promise (answered a) × (after ≡ fronted (words a) before)
+  pub number : outWords ≤ length before → n ≢ 0 → promise (refused n)
   pub other : n ≢ 0 → (after ≡ before) × kept
   -- on any words: a short `out`; refusals by lengths, head and arguments; and any two numbers that are not 0
   pub short : length before < outWords → (n ≡ m) × (after ≡ after′) × Same
