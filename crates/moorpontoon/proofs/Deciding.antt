@@ -48,7 +48,7 @@ module _ {A : Type 0} (words : A → List ℕ) (promise : Outcome A → Type 0) 
       (λ few. let a = one .short few in (a .1, a .2))
       (λ long. let a = one .told long in told-other (a .0) still (a .1) (a .2) some)
 
-  exported-zero : (promise (refused 0) → ⊥) → Exported words promise kept before after n → n ≡ 0 → (a : A) × promise (answered a) × (after ≡ fronted (words a) before)
+  pub exported-zero : (promise (refused 0) → ⊥) → Exported words promise kept before after n → n ≡ 0 → (a : A) × promise (answered a) × (after ≡ fronted (words a) before)
   exported-zero numbered one z =
       either-lt (length before) outWords
       (λ few. let a = one .short few in absurd (omega (arith, a .0)))
