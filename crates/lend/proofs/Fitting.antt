@@ -15,7 +15,7 @@ use Rattle.model.specs.Layout.{headWords, mostLevels, firstWord, pagesIn, allow
 use Rattle.model.specs.Head.{geometryOf, spareWords, numberTests, fits, headed, countWord, rootWord, levelsWord}
 use Rattle.lend.specs.Pages.{Inside}
 use Rattle.lend.specs.Touches.{Sized}
-use Rattle.model.proofs.Cases.{either, contrary, either-eq}
+use Rattle.model.proofs.Cases.{either-eq}
 use Rattle.model.proofs.Basics.{tab-ext, every-append, every-then, every-one}
 use Rattle.model.proofs.Head.{head-facts}
 use Rattle.lend.proofs.Lent.{page-inside}
@@ -66,9 +66,6 @@ module _ (w : List ℕ) where
   pub headed-no : allowed today (length w) ≡ false → headed w ≡ false
   unfolding headed geometryOf
   headed-no no-length = rw no-length
-
-  pub headed-allowed : headed w ≡ true → allowed today (length w) ≡ true
-  headed-allowed e = either (allowed today (length w)) (λ y. y) (λ z. contrary e (headed-no z))
 
   module _ (long : allowed today (length w) ≡ true) where
     -- a number does not fit

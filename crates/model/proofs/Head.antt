@@ -103,6 +103,6 @@ head-fits w f =
       ),
     ))
 
-pub headed-sized : (w : List ℕ) → headed w ≡ true → allowed (geometryOf w) (length w) ≡ true
+pub headed-allowed : (w : List ℕ) → headed w ≡ true → allowed (geometryOf w) (length w) ≡ true
 unfolding headed
-headed-sized w = either (allowed (geometryOf w) (length w)) (λ y e. y) (λ n. rw n (λ e. contrary e refl))
+headed-allowed w = either (allowed (geometryOf w) (length w)) (λ y e. y) (λ n. rw n (λ e. contrary e refl))

@@ -25,21 +25,16 @@ use Rattle.model.specs.Written.{Written}
 use Rattle.model.specs.Refusal.{Test, refusal}
 use Rattle.model.specs.Call.{refused, answered, given, left, Exact}
 use Rattle.model.specs.PoolCalls.{makeTests, clearTests, fresh, Makes, Clears}
-use Rattle.model.proofs.Cases.{never}
 use Rattle.model.proofs.Basics.{length-tab}
 use Rattle.model.proofs.PageMap.{bit-zero}
 use Rattle.model.proofs.Lawful.{allowed-facts, geometry-lawful, geometry-same, today-lawful}
-use Rattle.model.proofs.Head.{head-facts, headed-sized}
+use Rattle.model.proofs.Head.{head-facts, headed-allowed}
 use Rattle.model.proofs.Right.{right-made}
 use Rattle.model.proofs.Keeps.{passed}
 use Rattle.model.proofs.Written.{written-sound, written-pool}
-use Rattle.model.proofs.Meets.{given-answered}
+use Rattle.model.proofs.Meets.{given-answered, given-refused}
 
 -- ---- exact on any words
-
-pub refused-given : {A : Type 0} (m n : ℕ) (a : A) → refused n ≡ given m a → (m ≡ n) × (1 ≤ n)
-refused-given zero n a e = never (cc)
-refused-given (suc m) n a e = let same : suc m ≡ n = cc in (same, omega arith)
 
 module _ {A : Type 0} {tests : List Test} {answer : A} {w new v : List ℕ} where
   pub exact-answered : {a : A} → Exact tests answer w new v (answered a) → (refusal tests ≡ 0) × (a ≡ answer) × (v ≡ new)
@@ -49,7 +44,7 @@ module _ {A : Type 0} {tests : List Test} {answer : A} {w new v : List ℕ} wher
 
   pub exact-refused : {n : ℕ} → Exact tests answer w new v (refused n) → (refusal tests ≡ n) × (1 ≤ n) × (v ≡ w)
   exact-refused {n} m =
-      let g = refused-given (refusal tests) n answer (m .exact) in
+      let g = given-refused (refusal tests) n answer (m .exact) in
       (g .0, g .1, m .words ∙ ap (λ (n : ℕ). left n w new) (g .0) ∙ old n (g .1))
     where
       old : (n : ℕ) → 1 ≤ n → left n w new ≡ w
@@ -151,11 +146,11 @@ module _ (w : List ℕ) (e : refusal (clearTests w) ≡ 0) where
 
   pub fresh-cleared : let v = fresh (geometryOf w) (kindWord w) w in
       Sound v × (poolOf v ≡ made (geometryOf w) (pagesIn (geometryOf w) (length w)) (kindWord w))
-  fresh-cleared = fresh-new (geometryOf w) (kindWord w) w (headed-sized w fits) (geometry-lawful w) (head-facts w fits .kind) named
+  fresh-cleared = fresh-new (geometryOf w) (kindWord w) w (headed-allowed w fits) (geometry-lawful w) (head-facts w fits .kind) named
 
 module _ {w v : List ℕ} (m : Clears w v (answered tt)) where
   pub clears-new : Sound v × (poolOf v ≡ made (geometryOf w) (pagesIn (geometryOf w) (length w)) (kindWord w))
   clears-new = let e = exact-answered m in rw (e .2) (fresh-cleared w (e .0))
 
   pub clears-long : length v ≡ length w
-  clears-long = let e = exact-answered m in ap length (e .2) ∙ fresh-long (geometryOf w) (kindWord w) w (headed-sized w (fits w (e .0)))
+  clears-long = let e = exact-answered m in ap length (e .2) ∙ fresh-long (geometryOf w) (kindWord w) w (headed-allowed w (fits w (e .0)))

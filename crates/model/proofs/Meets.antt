@@ -34,9 +34,9 @@ pub given-answered : {A : Type 0} (n : ℕ) (a b : A) → answered b ≡ given n
 given-answered zero a b e = (refl, cc)
 given-answered (suc n) a b e = never (cc)
 
-pub given-refused : {A : Type 0} (m n : ℕ) (a : A) → refused (suc n) ≡ given m a → m ≡ suc n
+pub given-refused : {A : Type 0} (m n : ℕ) (a : A) → refused n ≡ given m a → (m ≡ n) × (1 ≤ n)
 given-refused zero n a e = never (cc)
-given-refused (suc m) n a e = cc
+given-refused (suc m) n a e = let same : suc m ≡ n = cc in (same, omega arith)
 
 -- ---- the tests of a call, in their two parts
 

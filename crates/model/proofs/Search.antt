@@ -18,7 +18,7 @@ use Rattle.model.specs.Entries.{has, lookup, gapOf, gapBefore}
 use Rattle.model.specs.Page.{entriesOf, childrenOf, readTree}
 use Rattle.model.specs.Gap.{slot, rest, slotAt, restAt, child, childAt}
 use Rattle.model.specs.Search.{at, searchPath}
-use Rattle.model.specs.Path.{gapPages, gapSlots, seekPages, seekSlots, find}
+use Rattle.model.specs.Path.{gapPages, gapSlots, seekPages, seekSlots, valueFound}
 use Rattle.model.proofs.Cases.{either, either-lt, either-eq, contrary}
 use Rattle.model.proofs.Basics.{all-at, all-map, getD-map}
 use Rattle.model.proofs.Entries.{Falls, falls-below, rising-left, rising-right, rising-lo, all-under, all-above, gap-le, gap-past, gap-within, lookup-past, lookup-within, has-lookup, has-slot}
@@ -194,15 +194,13 @@ module _ (k m : ℕ) (pages : ℕ → List ℕ) where
   search-present low h p = ends-there low 0 h p
 
 -- what the search answers
-pub find-held : (k m low h : ℕ) (t : Tree h) → Shaped m low h t → Rising (entries h t)
-    → find k h t ≡ record { value = lookup k (entries h t); read = length (searchPath k h t) }
-unfolding find searchPath entries Shaped lookup
-find-held k m low zero t s r = refl
-find-held k m low (suc h) t s r =
+pub found-held : (k m low h : ℕ) (t : Tree h) → Shaped m low h t → Rising (entries h t) → valueFound k h t ≡ lookup k (entries h t)
+unfolding valueFound entries Shaped lookup
+found-held k m low zero t s r = refl
+found-held k m low (suc h) t s r =
     let before : ℕ → Bool = λ x. ltb x k in
-    let ih = find-held k m m h (seekChild before h t) (seek-shaped before m low h t s r) (seek-rising before m low h t s r) in
-    rw (lookup-seek (entries h) k (t .children) (t .own) (noTree h) (s .forks) r)
-    (either (at k (t .own) (gapBefore k (t .own))) (λ y. rw y) (λ n. rw (n, ih)))
+    let ih = found-held k m m h (seekChild before h t) (seek-shaped before m low h t s r) (seek-rising before m low h t s r) in
+    rw (lookup-seek (entries h) k (t .children) (t .own) (noTree h) (s .forks) r, ih)
 
 -- it reads the first pages of the way to the key's gap
 pub search-way : (k m low h : ℕ) (t : Tree h) → Shaped m low h t → Rising (entries h t)

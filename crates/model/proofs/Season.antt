@@ -214,7 +214,7 @@ refusal-applies (m ∷ ns) ts n = either (applies m ts) (λ y. rw y (λ e. rw (�
 -- a call whose test of 7 does not apply is not refused with 7
 never-full : {A : Type 0} (c : Call A) {w v : List ℕ} → Sound w → applies 7 (c .early w ++ c .late (poolOf w)) ≡ false → Meets c w v (refused 7) → ⊥
 never-full c {w} s free m =
-    contrary (refusal-applies order (c .early w ++ c .late (poolOf w)) 6 (given-refused (number c w) 6 (c .answer (poolOf w)) (m .exact s))) free
+    contrary (refusal-applies order (c .early w ++ c .late (poolOf w)) 6 (given-refused (number c w) 7 (c .answer (poolOf w)) (m .exact s) .0)) free
 
 module _ (γ : Geometry) (P : ℕ) (w : List ℕ) (s : Sound w) (same : geometryOf w ≡ γ) (long : length w ≡ firstWord γ P) where
   abbrev p : Pool

@@ -12,7 +12,7 @@ use lib.ListN.{length, getD, take, drop, length-map}
 use lib.Seq.{take-all, take-at, getD-take}
 use Rattle.model.specs.Basics.{All, those}
 use Rattle.model.specs.Tree.{Entry, noEntry, Rising}
-use Rattle.model.specs.Bound.{unbounded}
+use Rattle.model.specs.Bound.{Bound, unbounded}
 use Rattle.model.specs.Entries.{has, lookup, gapBefore}
 use Rattle.model.specs.Pool.{heldBy, poolOf}
 use Rattle.model.specs.Sound.{Sound}
@@ -48,14 +48,18 @@ entries-pairing es r = record {
 
 -- ---- a list that answered
 
-pub not-refused : (t n : ℕ) → ((k : ℕ) → t ≡ suc k → _≡_ {A = Outcome ℕ} (answered n) (refused (suc k))) → t ≡ 0
+not-refused : (t n : ℕ) → ((k : ℕ) → t ≡ suc k → _≡_ {A = Outcome ℕ} (answered n) (refused (suc k))) → t ≡ 0
 not-refused zero n f = refl
 not-refused (suc k) n f = let e = f k refl in cc
+
+-- it has passed its tests
+pub list-passed : {tests : List Test} {low high : Bound} {w : List ℕ} {cs : List Column} {n : ℕ} → Lists tests low high w cs (answered n) → refusal tests ≡ 0
+list-passed {tests} {n = n} m = not-refused (refusal tests) n (m .early)
 
 module _ (tests : List Test) (w : List ℕ) (cs : List Column) (n : ℕ) (s : Sound w) (m : Lists tests unbounded unbounded w cs (answered n))
     (long : length (heldBy (poolOf w)) ≤ shortest cs) where
   passed : refusal tests ≡ 0
-  passed = not-refused (refusal tests) n (m .early)
+  passed = list-passed m
 
   all-listed : listed unbounded unbounded cs (poolOf w) ≡ heldBy (poolOf w)
   all-listed = rw (those-all (heldBy (poolOf w))) (take-all (shortest cs) (heldBy (poolOf w)) long)

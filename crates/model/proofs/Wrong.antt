@@ -26,7 +26,7 @@ use Rattle.model.specs.Search.{Found}
 use Rattle.model.specs.Pool.{poolOf, wholeOf, heldBy, gapBy}
 use Rattle.model.specs.Sound.{Sound}
 use Rattle.model.specs.Refusal.{Test, mapKind, unfit, refusal}
-use Rattle.model.specs.Call.{Call, Outcome, refused, answered, left, number, Meets}
+use Rattle.model.specs.Call.{Call, Outcome, refused, answered, left, number, Meets, ReadsPages}
 use Rattle.model.specs.PoolCalls.{makeTests, fresh, Makes, Clears, Counts, TellsEmpty, cursorless, Copies, Checks}
 use Rattle.model.specs.MapCalls.{pagesRead, mapInsert, mapGet, mapRemove}
 use Rattle.model.specs.ListCalls.{Column, valueColumn, shortest, listed, fronted, listTests, Lists}
@@ -40,20 +40,20 @@ use Rattle.model.proofs.Basics.{every-true}
 use Rattle.model.proofs.Entries.{has-lookup, gap-after-has}
 use Rattle.model.proofs.Right.{sound-right}
 use Rattle.model.proofs.Keeps.{passed, of-kind, insert-fits}
-use Rattle.model.proofs.Meets.{given-answered, gap-passes}
-use Rattle.model.proofs.Making.{refused-given, exact-answered, exact-refused}
+use Rattle.model.proofs.Meets.{given-answered, given-refused, gap-passes}
+use Rattle.model.proofs.Making.{exact-answered, exact-refused}
 use Rattle.model.proofs.Cursorless.{cursorless-high, cursorless-mid}
 use Rattle.model.proofs.Reading.{read-absent}
 use Rattle.model.proofs.Season.{season-demand}
 use Rattle.model.proofs.SourceMap.{strike-lookup}
-use Rattle.model.proofs.SourceList.{not-refused, those-all}
+use Rattle.model.proofs.SourceList.{list-passed, those-all}
 
 -- ---- of any call: a sound pool, and words and an outcome that it should not have
 
 module _ {A : Type 0} (c : Call A) (w : List ℕ) (s : Sound w) where
   -- a call that only refuses: wherever its number is not the one that is due
   pub refuses-fails : (n : ℕ) → number c w ≢ n → Fails c (onlyRefuses n) w
-  refuses-fails n other m = other (refused-given (number c w) n (c .answer (poolOf w)) (m .exact s) .0)
+  refuses-fails n other m = other (given-refused (number c w) n (c .answer (poolOf w)) (m .exact s) .0)
 
   -- one fixed answer: wherever it is not the call's
   pub fixed-fails : (a : A) → a ≢ c .answer (poolOf w) → Fails c (fixedAnswer a) w
@@ -131,11 +131,12 @@ pub always-one-fails : (k : ℕ) (w : List ℕ) → Sound w → number (mapGet k
     → Fails (mapGet k) (inventsPages (λ w. 1) k) w
 always-one-fails k w s pass absent deep = invented-fails (λ w. 1) k w s pass (λ q. omega (arith, read-absent k w s absent))
 
--- ---- errors that look right: whatever body makes them
+-- more pages than there are levels, on any words: of every call that tells the pages read
+pub many-pages-fails : {A : Type 0} (c : Call A) (read : A → ℕ) (w v : List ℕ) (a : A) → levelsWord w < read a
+    → ReadsPages c read w v (answered a) → ⊥
+many-pages-fails c read w v a many m = omega (arith, m .few a refl)
 
--- a list that answers has passed its tests
-list-passes : {tests : List Test} {low high : Bound} {w : List ℕ} {cs : List Column} {n : ℕ} → Lists tests low high w cs (answered n) → refusal tests ≡ 0
-list-passes {tests} {n = n} m = not-refused (refusal tests) n (m .early)
+-- ---- errors that look right: whatever body makes them
 
 -- Excluded read alike at both ends: the gap after the key, of a key that is there
 pub excluded-alike-fails : (k : ℕ) (w : List ℕ) → Sound w → number (cursorOpenUpper 1 k) w ≡ 0 → has k (heldBy (poolOf w)) ≡ true
@@ -173,7 +174,7 @@ pub page-order-fails : (w before after : List ℕ) (n : ℕ) (first least : Entr
     → after ≡ fronted (map (λ e. e .value) (take (length before) (pageOrder (poolOf w .whole .levels) (poolOf w .whole .tree)))) before
     → Lists (listTests mapKind 2 2 w) unbounded unbounded w (valueColumn before after ∷ []) (answered n) → ⊥
 page-order-fails w before after n first least rest more s room order held other laid m =
-    let wrote = m .writes s (list-passes m) .0 in
+    let wrote = m .writes s (list-passed m) .0 in
     let right : after ≡ fronted (map (λ e. e .value) (take (length before) (least ∷ more))) before = rw (those-all, held) at wrote in
     other (sym (front-value rest first before room) ∙ ap (λ (l : List ℕ). word l 0) (sym (rw order at laid) ∙ right) ∙ front-value more least before room)
 
@@ -241,7 +242,7 @@ module _ (tests : List Test) (low high : Bound) (w : List ℕ) (cs : List Column
   -- a list that writes past the shortest slice
   pub long-list-fails : (n : ℕ) → Sound w → shortest cs < n → Lists tests low high w cs (answered n) → ⊥
   long-list-fails n s past m =
-      let all : n ≡ length (listed low high cs (poolOf w)) = cc (m .exact s (list-passes m)) in
+      let all : n ≡ length (listed low high cs (poolOf w)) = cc (m .exact s (list-passed m)) in
       omega (arith, length-take (shortest cs) (between low high (heldBy (poolOf w))))
 
   -- that is refused and has written

@@ -2,14 +2,14 @@
 -- No public contract speaks of it. That both ways are the same is proved (proofs/Search).
 -- Assumes nothing: these are definitions.
 use mathlib.Core.Bool.{Bool, cond}
-use mathlib.Core.Option.{none, some}
+use mathlib.Core.Option.{Option, none, some}
 use mathlib.Core.List.{List, [], _∷_}
 use Prim.Native.Nat.{ℕ, zero, suc}
-use lib.ListN.{getD}
+use lib.ListN.{length, getD}
 use Rattle.model.specs.Tree.{Tree, noEntry}
 use Rattle.model.specs.Entries.{gapOf, gapBefore}
 use Rattle.model.specs.Gap.{slotAt, restAt, child, childAt}
-use Rattle.model.specs.Search.{Found, at}
+use Rattle.model.specs.Search.{Found, at, searchPath}
 
 -- the path of gap g
 unfoldable pub gapPages : (h : ℕ) → Tree h → ℕ → List ℕ
@@ -29,12 +29,15 @@ unfoldable pub seekSlots : (ℕ → Bool) → (h : ℕ) → Tree h → List ℕ
 seekSlots before zero t = []
 seekSlots before (suc h) t = gapOf before (t .own) ∷ seekSlots before h (child h t (gapOf before (t .own)))
 
--- the search for a key: its value, and the pages read
+-- the search for a key: the value that it finds, and the pages of its path
+unfoldable pub valueFound : ℕ → (h : ℕ) → Tree h → Option ℕ
+valueFound k zero t = none
+valueFound k (suc h) t =
+    let i = gapBefore k (t .own) in
+    cond (at k (t .own) i) (some (getD (t .own) i noEntry .value)) (valueFound k h (child h t i))
+
+abbrev pub find : ℕ → (h : ℕ) → Tree h → Found
+find k h t = record { value = valueFound k h t; read = length (searchPath k h t) }
+
 abbrev pub deeper : Found → Found
 deeper r = record { value = r .value; read = suc (r .read) }
-
-unfoldable pub find : ℕ → (h : ℕ) → Tree h → Found
-find k zero t = record { value = none; read = 0 }
-find k (suc h) t =
-    let i = gapBefore k (t .own) in
-    cond (at k (t .own) i) (record { value = some (getD (t .own) i noEntry .value); read = 1 }) (deeper (find k h (child h t i)))

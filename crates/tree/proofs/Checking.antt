@@ -19,7 +19,6 @@ use Rattle.model.specs.Tree.{Entry, Tree, weave, entries, times, Rising, Shaped
 use Rattle.model.specs.Page.{countOf, keyPlace, entryIn, entriesOf}
 use Rattle.model.specs.Standing.{Standing}
 use Rattle.model.specs.Entries.{has, lookup}
-use Rattle.model.specs.Search.{Found}
 use Rattle.model.specs.Path.{find}
 use Rattle.model.specs.Pool.{wholeOf, poolOf}
 use Rattle.model.specs.Sound.{Sound}
@@ -38,7 +37,7 @@ use Rattle.model.proofs.Sums.{sum-append, sum-le, sumTo-ext}
 use Rattle.model.proofs.PageMap.{bitAt-lt}
 use Rattle.model.proofs.Head.{head-facts}
 use Rattle.model.proofs.Entries.{there, has-lookup}
-use Rattle.model.proofs.Search.{find-held}
+use Rattle.model.proofs.Search.{found-held}
 use Rattle.model.proofs.Numbers.{pagesBelow, pagesOf, pages-met}
 use Rattle.model.proofs.Read.{length-own, read-page}
 use Rattle.model.proofs.Standing.{read-standing}
@@ -295,7 +294,7 @@ gets-is w (suc l) h p k above r e g s o =
     let same : h ≡ l = omega arith in
     let t : Tree (suc l) = treeAt w (suc l) p in
     subst (λ (z : ℕ). GetsBelow w p z k above r) same g 1 t s (read-page least (pageIn w) l p)
-    ∙ ap (λ (x : Found). gotBy above (x .value) (find k (suc l) t .read)) (find-held k least 1 (suc l) t (s .shaped) o)
+    ∙ ap (λ (x : Option ℕ). gotBy above x (find k (suc l) t .read)) (found-held k least 1 (suc l) t (s .shaped) o)
 
 value-there : (above n v m : ℕ) (x : Option ℕ) → got.Value v m ≡ gotBy above x n → there x ≡ true
 value-there above n v m none e = never (cc)

@@ -19,8 +19,8 @@ use Rattle.model.specs.Page.{countOf, heightOf, entryIn, childIn, entriesOf}
 use Rattle.model.specs.Standing.{pageNumber}
 use Rattle.model.specs.Entries.{gapOf, gapBefore}
 use Rattle.model.specs.Gap.{child}
-use Rattle.model.specs.Search.{at, Found}
-use Rattle.model.specs.Path.{deeper, find}
+use Rattle.model.specs.Search.{at, Found, searchPath}
+use Rattle.model.specs.Path.{deeper, find, valueFound}
 use Rattle.page.specs.declared.Place.{Place}
 use Rattle.page.specs.declared.Place.the-variants as place
 use Rattle.page.specs.declared.Slot.the-variants as slot
@@ -194,16 +194,16 @@ got-deeper above f = go (f .value)
 
 find-here : (k h : ℕ) (t : Tree (suc h)) → at k (t .own) (gapBefore k (t .own)) ≡ true
     → find k (suc h) t ≡ record { value = some (getD (t .own) (gapBefore k (t .own)) noEntry .value); read = 1 }
-unfolding find
+unfolding valueFound searchPath
 find-here k h t y = rw y
 
 find-down : (k h : ℕ) (t : Tree (suc h)) → at k (t .own) (gapBefore k (t .own)) ≡ false
     → find k (suc h) t ≡ deeper (find k h (child h t (gapBefore k (t .own))))
-unfolding find
+unfolding valueFound searchPath
 find-down k h t n = rw n
 
 find-none : (k h : ℕ) (t : Tree h) → h ≡ 0 → find k h t .value ≡ none
-unfolding find
+unfolding valueFound
 find-none k zero t z = refl
 find-none k (suc h) t z = absurd (omega arith)
 
@@ -232,7 +232,8 @@ module _ (w : List ℕ) (p h k above : ℕ) where
     pub get-absent : h ≡ 0 → GetsBelow w p h k above got.Absent
     get-absent z low t s q =
         let says : (gapBefore k (t .own) ≡ i) × (at k (t .own) (gapBefore k (t .own)) ≡ false) = subst (Answers k (t .own)) e (sits-answers w low h t p k s q) in
-        rw (find-down k h t (says .1), find-none k h (child h t (gapBefore k (t .own))) z)
+        let c = child h t (gapBefore k (t .own)) in
+        sym (ap (gotFound above) (find-down k h t (says .1)) ∙ ap (λ (x : Option ℕ). gotBy above x (suc (find k h c .read))) (find-none k h c z))
 
     pub get-lost : {r : Got} → 0 < h → belowOf w p i ≡ below.Unsound → GetsBelow w p h k above r
     get-lost l b low t s q = never (cc (gap-below w p h k i e l low t s q))

@@ -3,6 +3,7 @@
 -- Assumes nothing.
 use mathlib.Core.Path.{_≡_, refl, sym, ap, ap₂, subst, _∙_}
 use mathlib.Core.Bool.{Bool, true, false}
+use mathlib.Core.Option.{Option}
 use mathlib.Core.List.{List, [], _∷_, _++_, append-assoc}
 use Prim.Native.Nat.{ℕ, zero, suc, pred, _+_, _-_, _<_}
 use native.Mathlib.Omega.{arith}
@@ -24,10 +25,10 @@ use Rattle.tree.specs.declared.search.Got.{Got}
 use Rattle.tree.specs.declared.search.Got.the-variants as got
 use Rattle.page.specs.declared.Slot.the-variants as slot
 use Rattle.tree.specs.Sits.{PathIn, PathOf, Sits, From}
-use Rattle.tree.specs.Search.{belowOf, slotBy, aimed, gotFound, GetsBelow, Gets, SeeksBelow, Seeks}
+use Rattle.tree.specs.Search.{belowOf, slotBy, aimed, gotBy, gotFound, GetsBelow, Gets, SeeksBelow, Seeks}
 use Rattle.model.proofs.Cases.{contrary, never}
 use Rattle.model.proofs.Entries.{Falls, falls-below, falls-up-to, gap-le}
-use Rattle.model.proofs.Search.{seekChild, seek-rising, seek-pages, seek-slots, find-held}
+use Rattle.model.proofs.Search.{seekChild, seek-rising, seek-pages, seek-slots, found-held}
 use Rattle.model.proofs.Right.{sound-right}
 use Rattle.model.proofs.Written.{sound-written}
 use Rattle.tree.proofs.Sitting.{sits-child, sits-below, sound-sits}
@@ -209,7 +210,8 @@ pub get-whole : (w : List ℕ) (k n p : ℕ) {r : Got} → suc n ≡ levelsWord 
 unfolding held pagesRead Formed
 get-whole w k n p d q g s =
     get-tree w k 1 (poolOf w .whole .levels) (poolOf w .whole .tree) n p (d ∙ sym (sound-levels w)) (sound-sits w s) (sound-number w s ∙ q) g
-    ∙ ap (gotFound 0) (find-held k least 1 (poolOf w .whole .levels) (poolOf w .whole .tree) (sound-sits w s .shaped) (sound-right w s .rising))
+    ∙ ap (λ (x : Option ℕ). gotBy 0 x (pagesRead k (poolOf w)))
+    (found-held k least 1 (poolOf w .whole .levels) (poolOf w .whole .tree) (sound-sits w s .shaped) (sound-right w s .rising))
 
 path-none : (h : ℕ) (t : Tree h) (g : ℕ) → h ≡ 0 → PathOf h t g [] []
 unfolding gapPages gapSlots

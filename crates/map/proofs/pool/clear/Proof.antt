@@ -7,7 +7,8 @@ use borrow.Author.Needs.{needs}
 use borrow.Author.Tests.{not-true, not-false, eq-eqb, ne-eqb}
 use Rattle.model.specs.Head.{headed, geometryOf}
 use Rattle.model.proofs.Making.{exact-stopped, exact-done}
-use Rattle.lend.proofs.Fitting.{head-long, headed-allowed}
+use Rattle.model.proofs.Head.{headed-allowed}
+use Rattle.lend.proofs.Fitting.{head-long}
 use Rattle.map.proofs.pool.clear.Statement.{statement}
 use Rattle.map.proofs.pool.clear.Tie as tie
 
@@ -41,6 +42,7 @@ slice-read-kind : tie.Need-slice-read-kind
 slice-read-kind c = let long = head-long _ (fitting (c .before .before .before)) in omega arith
 
 lay-requires : tie.Need-lay-requires
+unfolding geometryOf
 lay-requires c κs = headed-allowed _ (fitting (c .before .before .before .before))
 
 same-length-3 : tie.Need-same-length-3
