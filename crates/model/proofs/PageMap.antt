@@ -1,7 +1,8 @@
 -- The bits of the page map, and the free pages: they are inside the pool, free, distinct, and lowest first; once some
 -- are taken the rest is left.
 -- Assumes nothing.
-use mathlib.Core.Path.{◌≡◌, refl, sym, ap, ap₂, ◌∙◌}
+use mathlib.Core.Path.{◌≡◌, refl, sym, ap, ap₂, subst, ◌∙◌}
+use mathlib.Core.Logic.{◌≢◌}
 use mathlib.Core.List.{List, ◌∷◌}
 use Prim.Native.Nat.{ℕ, zero, suc, ◌+◌, ◌*◌, ◌/◌, ◌%◌, ◌^◌, ◌≤◌, ◌<◌}
 use native.Mathlib.Nat.{div-one, zero-div, pow-suc, add-zero}
@@ -169,23 +170,41 @@ taken_after taken l k q = taken q + sum_to (λ i. same q (get_or l i 0)) k
 after-cons : (taken : ℕ → ℕ) (p : ℕ) (l : List ℕ) (k q : ℕ) → taken_after taken (p ∷ l) (suc k) q ≡ taken_after taken l k q + same q p
 after-cons taken p l k q = omega (arith, sum_to-front (λ i. same q (get_or (p ∷ l) i 0)) k)
 
+free-here : (f : ℕ → ℕ) (p n : ℕ) → f p ≡ 0 → free_from f p (suc n) ≡ p ∷ free_from f (suc p) n
+unfolding free_from
+free-here f p n e = rw (eq-eqb (f p) 0 e)
+
+free-past : (f : ℕ → ℕ) (p n : ℕ) → f p ≢ 0 → free_from f p (suc n) ≡ free_from f (suc p) n
+unfolding free_from
+free-past f p n ne = rw (ne_eqb (f p) 0 ne)
+
+from-next : (taken : ℕ → ℕ) (n p k : ℕ)
+    → ((j : ℕ) → j ≤ length (free_from taken (suc p) n)
+      → free_from (taken_after taken (free_from taken (suc p) n) j) (suc p) n ≡ drop j (free_from taken (suc p) n))
+    → suc k ≤ length (free_from taken p (suc n))
+    → free_from (taken_after taken (free_from taken p (suc n)) (suc k)) p (suc n) ≡ drop (suc k) (free_from taken p (suc n))
+from-next taken n p k ih h =
+    let rest = free_from taken (suc p) n in
+    either-eq (taken p) 0
+    (λ e. let first = free-here taken p n e in
+    let b : suc k ≤ suc (length rest) = rw first at h in
+    subst (λ l. free_from (taken_after taken l (suc k)) p (suc n) ≡ drop (suc k) l) (sym first)
+    (free-past (taken_after taken (p ∷ rest) (suc k)) p n (omega (arith, after-cons taken p rest k p, same_self p))
+    ∙ from-same (taken_after taken (p ∷ rest) (suc k)) (taken_after taken rest k) n (suc p)
+    (λ q l m. omega (arith, after-cons taken p rest k q, same-other q p (omega arith)))
+    ∙ ih k (omega arith)))
+    (λ ne. let past = free-past taken p n ne in
+    let b : suc k ≤ length rest = rw past at h in
+    subst (λ l. free_from (taken_after taken l (suc k)) p (suc n) ≡ drop (suc k) l) (sym past)
+    (free-past (taken_after taken rest (suc k)) p n (omega arith) ∙ ih (suc k) b))
+
 from-after : (taken : ℕ → ℕ) (n p k : ℕ) → k ≤ length (free_from taken p n)
     → free_from (taken_after taken (free_from taken p n) k) p n ≡ drop k (free_from taken p n)
 unfolding free_from sum_to
 from-after taken zero p zero h = refl
 from-after taken zero p (suc k) h = absurd (omega arith)
 from-after taken (suc n) p zero h = from-same (taken_after taken (free_from taken p (suc n)) 0) taken (suc n) p (λ q l m. add-zero (taken q))
-from-after taken (suc n) p (suc k) h =
-    let rest = free_from taken (suc p) n in
-    let ih : (j : ℕ) → j ≤ length rest → free_from (taken_after taken rest j) (suc p) n ≡ drop j rest = from-after taken n (suc p) in
-    either-eq (taken p) 0
-    (λ e. let b : suc k ≤ suc (length rest) = rw (eq-eqb (taken p) 0 e) at h in
-    rw (eq-eqb (taken p) 0 e, ne_eqb (taken_after taken (p ∷ rest) (suc k) p) 0 (omega (arith, after-cons taken p rest k p, same_self p)))
-    (from-same (taken_after taken (p ∷ rest) (suc k)) (taken_after taken rest k) n (suc p)
-    (λ q l m. omega (arith, after-cons taken p rest k q, same-other q p (omega arith)))
-    ∙ ih k (omega arith)))
-    (λ ne. let b : suc k ≤ length rest = rw (ne_eqb (taken p) 0 ne) at h in
-    rw (ne_eqb (taken p) 0 ne, ne_eqb (taken_after taken rest (suc k) p) 0 (omega arith)) (ih (suc k) b))
+from-after taken (suc n) p (suc k) h = from-next taken n p k (from-after taken n (suc p)) h
 
 pub free-after : (taken : ℕ → ℕ) (P k : ℕ) → k ≤ length (free_pages taken P)
     → free_pages (λ q. taken q + sum_to (λ i. same q (get_or (free_pages taken P) i 0)) k) P ≡ drop k (free_pages taken P)

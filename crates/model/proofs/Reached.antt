@@ -1,7 +1,7 @@
 -- The pages reached from the root by words alone, against the tree: in a sound pool they are those that the map marks,
 -- each has one route, and the routes to leaves are all as long as the levels say.
 -- Assumes nothing.
-use mathlib.Core.Path.{◌≡◌, refl, ap, ap₂}
+use mathlib.Core.Path.{◌≡◌, refl, sym, ap, ap₂, subst}
 use mathlib.Core.Logic.{◌≢◌}
 use mathlib.Core.List.{List, [], ◌∷◌}
 use Prim.Native.Nat.{ℕ, zero, suc, pred, min, ◌+◌, ◌≤◌, ◌<◌}
@@ -16,7 +16,7 @@ use Rattle.model.specs.Page.{page_of, count_of, height_of, child_in, children_of
 use Rattle.model.specs.Pool.{whole_of}
 use Rattle.model.specs.Sound.{Sound}
 use Rattle.model.specs.Reached.{Leads, here, down, Reached}
-use Rattle.model.proofs.Cases.{either_lt, either-eq, same_self, same-other}
+use Rattle.model.proofs.Cases.{either_lt, either-eq, same_self, same-eq, same-other}
 use Rattle.model.proofs.Basics.{map-tab, all-at, length-tab, get_or-tab}
 use Rattle.model.proofs.Sums.{sum-at}
 use Rattle.model.proofs.PageMap.{bit_at_lt}
@@ -87,18 +87,28 @@ module _ (m : ℕ) (pages : ℕ → List ℕ) where
       (omega arith, some.0 ∷ deeper.1, down {route = deeper.1} (omega arith) b deeper.2))
 
   -- two routes would meet it twice: at the page and below a child, or below two children
-  leads-once : (h : ℕ) {p q : ℕ} {one other : List ℕ} → 1 ≤ h → Heights m pages h p → met q h p ≤ 1 → Leads m pages p one q → Leads m pages p other q → one ≡ other
+  leads-same : (h : ℕ) {p q q' : ℕ} {one other : List ℕ} → 1 ≤ h → Heights m pages h p → met q h p ≤ 1 → Leads m pages p one q
+      → Leads m pages p other q' → q ≡ q' → one ≡ other
   unfolding Heights
-  leads-once zero l k few r t = absurd (omega arith)
-  leads-once (suc h) l k few here here = refl
-  leads-once (suc h) {p} l k few here (down {i = j} up b t) = absurd (omega (arith, met-child p h p j b, same_self p, leads-met h (omega arith) (child-heights h p j b k) t))
-  leads-once (suc h) {p} l k few (down {i = i} up b r) here = absurd (omega (arith, met-child p h p i b, same_self p, leads-met h (omega arith) (child-heights h p i b k) r))
-  leads-once (suc h) {p} {q} l k few (down {i = i} up b r) (down {i = j} up' c t) =
+  leads-same zero l k few r t e = absurd (omega arith)
+  leads-same (suc h) l k few here here e = refl
+  leads-same (suc h) {p} l k few here (down {i = j} {route = route} up b t) e =
+      let back = subst (Leads m pages (child p j) route) (sym e) t in
+      absurd (omega (arith, met-child p h p j b, same_self p, leads-met h (omega arith) (child-heights h p j b k) back))
+  leads-same (suc h) {p} {q} l k few (down {i = i} {route = route} up b r) here e =
+      absurd (omega (arith, met-child q h p i b, same-eq q p e, leads-met h (omega arith) (child-heights h p i b k) r))
+  leads-same (suc h) {p} {q} l k few (down {i = i} up b r) (down {i = j} {route = route} up' c t) e =
       let one = leads-met h (omega arith) (child-heights h p i b k) r in
-      let other = leads-met h (omega arith) (child-heights h p j c k) t in
+      let back = subst (Leads m pages (child p j) route) (sym e) t in
+      let other = leads-met h (omega arith) (child-heights h p j c k) back in
       either-eq i j
-      (λ e. ap₂ ◌∷◌ e (leads-once h (omega arith) (child-heights h p i b k) (omega (arith, met-child q h p i b)) r (rw e t)))
+      (λ s. ap₂ ◌∷◌ s
+      (leads-same h (omega arith) (child-heights h p i b k) (omega (arith, met-child q h p i b)) r
+      (subst (λ n. Leads m pages (child p n) route q) (sym s) back) refl))
       (λ d. absurd (omega (arith, met-suc q h p, sum-two (times q h) (below h p) (suc (count_of (pages p))) i j d (omega arith) (omega arith))))
+
+  leads-once : (h : ℕ) {p q : ℕ} {one other : List ℕ} → 1 ≤ h → Heights m pages h p → met q h p ≤ 1 → Leads m pages p one q → Leads m pages p other q → one ≡ other
+  leads-once h l k few r t = leads-same h l k few r t refl
 
 -- ---- routes in a sound pool
 
