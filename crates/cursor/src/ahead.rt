@@ -8,7 +8,7 @@ use model::MOST_LEVELS;
 use tree::steps::Spot;
 
 // Its page and slot, or that there is none.
-#[derive(Drop)]
+#[derive(Clone, Copy)]
 pub enum Ahead {
     At(usize, usize),
     End,

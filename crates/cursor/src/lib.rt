@@ -2,6 +2,8 @@
 // writes and close stand here; opening is in `opening`, insert after and remove next in `edit`, playback in `play`.
 // Every call takes any words: it tests length, head, kind and cursor first, refuses in document 01's order, and a
 // refusal has changed no word.
+#![tactic(auto)]
+
 ghost use Rattle.std.specs.Prelude.{◌≡◌, true, length};
 ghost use Rattle.model.specs.Head.{levels_word, after_word, headed};
 ghost use Rattle.model.specs.Refusal.{refusal};
@@ -25,7 +27,7 @@ use tree::search::Got;
 
 // An entry, or that the gap is at that end of the list. Callers take it apart with `let .. else` and go on only with
 // the entry that it carries.
-#[derive(Drop)]
+#[derive(Clone, Copy)]
 pub enum Step {
     Entry(u64, u64),
     End,
@@ -33,7 +35,7 @@ pub enum Step {
 }
 
 // The value that the entry had, or that the gap is at that end.
-#[derive(Drop)]
+#[derive(Clone, Copy)]
 pub enum Wrote {
     Before(u64),
     End,

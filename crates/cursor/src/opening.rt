@@ -15,7 +15,7 @@ use model::{MOST_LEVELS, OPEN};
 use tree::search::Aim;
 
 // The pages read.
-#[derive(Drop)]
+#[derive(Clone, Copy)]
 pub enum Opened {
     Read(usize),
     Refused(Refusal),

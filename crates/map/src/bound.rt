@@ -7,7 +7,7 @@ ghost use Rattle.map.specs.Bound.{lower_by, upper_by};
 use tree::search::Aim;
 
 // The gap that a bound names, where its kind is known.
-#[derive(Drop)]
+#[derive(Clone, Copy)]
 pub enum Bound {
     At(Aim),
     Unknown,

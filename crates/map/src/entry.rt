@@ -11,7 +11,7 @@ use tree::search::Aim;
 use tree::steps::Spot;
 
 // Where a key's entry stands: its page and slot.
-#[derive(Drop)]
+#[derive(Clone, Copy)]
 pub enum Sought {
     Here(usize, usize),
     Absent,
@@ -19,7 +19,7 @@ pub enum Sought {
 }
 
 // A key's entry put in, or where the one stands that it has.
-#[derive(Drop)]
+#[derive(Clone, Copy)]
 pub enum Added {
     New,
     Here(usize, usize),
@@ -28,7 +28,7 @@ pub enum Added {
 }
 
 // A key's entry struck out: the value that it had.
-#[derive(Drop)]
+#[derive(Clone, Copy)]
 pub enum Struck {
     Value(u64),
     Absent,

@@ -1,6 +1,8 @@
 // Map and set: the calls of BTreeMap and BTreeSet on a lent pool. A map's own calls stand here; a set's are in `set`,
 // lists in `list`, and what both kinds share in `pool`. Every call takes any words and any numbers: it tests the length
 // and the head first, refuses in document 01's order, and a refusal has changed no word.
+#![tactic(auto)]
+
 ghost use Rattle.model.specs.Call.{Meets, ReadsPages};
 ghost use Rattle.model.specs.MapCalls.{map_insert, map_get, map_contains, map_replace, map_remove};
 ghost use Rattle.map.specs.Answers.{inserted_of, got_of, contained_of, replaced_of, removed_of};
@@ -16,7 +18,7 @@ use crate::entry::{Added, Sought, Struck};
 use crate::refusal::{Early, MAP, Refusal};
 
 // Insert: the key was new, or the value that it had before.
-#[derive(Drop)]
+#[derive(Clone, Copy)]
 pub enum Inserted {
     New,
     Before(u64),
@@ -24,7 +26,7 @@ pub enum Inserted {
 }
 
 // Get: the value and the pages read, or absent and the pages read, which are all levels.
-#[derive(Drop)]
+#[derive(Clone, Copy)]
 pub enum Got {
     Value(u64, usize),
     Absent(usize),
@@ -32,7 +34,7 @@ pub enum Got {
 }
 
 // Contains, of a map or a set: whether, and the pages read.
-#[derive(Drop)]
+#[derive(Clone, Copy)]
 pub enum Contained {
     Present(usize),
     Absent(usize),
@@ -40,7 +42,7 @@ pub enum Contained {
 }
 
 // Replace: the value before.
-#[derive(Drop)]
+#[derive(Clone, Copy)]
 pub enum Replaced {
     Before(u64),
     Absent,
@@ -48,7 +50,7 @@ pub enum Replaced {
 }
 
 // Remove: the value that the key had.
-#[derive(Drop)]
+#[derive(Clone, Copy)]
 pub enum Removed {
     Value(u64),
     Absent,

@@ -19,7 +19,7 @@ use tree::search::Aim;
 use tree::steps::Step;
 
 // How many entries were written.
-#[derive(Drop)]
+#[derive(Clone, Copy)]
 pub enum Listed {
     Wrote(usize),
     Refused(Refusal),

@@ -12,7 +12,7 @@ pub const MAP: u64 = 0;
 pub const SET: u64 = 1;
 
 // Why a call is refused; document 01's numbers, 1 to 9, in this order.
-#[derive(Drop)]
+#[derive(Clone, Copy)]
 pub enum Refusal {
     Unfit,
     OtherKind,
@@ -43,7 +43,7 @@ pub fn number(why: Refusal) -> u64
 }
 
 // What the first tests say.
-#[derive(Drop)]
+#[derive(Clone, Copy)]
 pub enum Early {
     Pass,
     Refused(Refusal),

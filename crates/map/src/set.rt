@@ -13,7 +13,7 @@ use crate::refusal::{Early, Refusal, SET};
 use crate::{Contained, entry, list, refusal};
 
 // Insert: whether the key is new.
-#[derive(Drop)]
+#[derive(Clone, Copy)]
 pub enum Inserted {
     New,
     Present,
@@ -21,7 +21,7 @@ pub enum Inserted {
 }
 
 // Get: the key itself and the pages read, or absent and the pages read, which are all levels.
-#[derive(Drop)]
+#[derive(Clone, Copy)]
 pub enum Got {
     Key(u64, usize),
     Absent(usize),
@@ -29,7 +29,7 @@ pub enum Got {
 }
 
 // Remove: whether the key was there.
-#[derive(Drop)]
+#[derive(Clone, Copy)]
 pub enum Removed {
     Present,
     Absent,

@@ -180,7 +180,7 @@ free-past f p n ne = rw (ne_eqb (f p) 0 ne)
 
 from-next : (taken : ℕ → ℕ) (n p k : ℕ)
     → ((j : ℕ) → j ≤ length (free_from taken (suc p) n)
-      → free_from (taken_after taken (free_from taken (suc p) n) j) (suc p) n ≡ drop j (free_from taken (suc p) n))
+    → free_from (taken_after taken (free_from taken (suc p) n) j) (suc p) n ≡ drop j (free_from taken (suc p) n))
     → suc k ≤ length (free_from taken p (suc n))
     → free_from (taken_after taken (free_from taken p (suc n)) (suc k)) p (suc n) ≡ drop (suc k) (free_from taken p (suc n))
 from-next taken n p k ih h =

@@ -1,4 +1,6 @@
 // The numbers of the layout, as code has them, each in this one place; what they stand for is in specs/Layout.
+#![tactic(auto)]
+
 ghost use Rattle.std.specs.Prelude.{◌≡◌, ◌≤◌};
 ghost use Rattle.model.specs.Layout.{today, most_pages, first_word};
 
@@ -26,7 +28,7 @@ pub const KEPT: usize = 5;
 // What pools may come to differ in: m, the fewest entries of a page that is not the root; the words of a page and of
 // the map; the most pages and the most levels. The definitions are over such a value. Today there is one
 // (specs/Layout), its numbers are those above, and no code is lent it yet.
-#[derive(Drop)]
+#[derive(Clone, Copy)]
 pub struct Geometry {
     pub least: usize,
     pub words: usize,

@@ -1,6 +1,8 @@
 // A page: word 0 the entry count, word 1 the height, then keys, values and child page numbers. Each function works on
 // the words of one page, which are lent; any words are taken. `most` is the most entries a page may hold: 9 gives keys
 // from word 2, values from 11, children from 20. In a leaf, whose height is 0, children are neither moved nor promised.
+#![tactic(auto)]
+
 ghost use Rattle.std.specs.Prelude.{◌≡◌, true, false, suc, ◌+◌, ◌*◌, ◌≤◌, ◌<◌, length, get_or};
 ghost use Rattle.model.specs.Basics.{ins};
 ghost use Rattle.model.specs.Tree.{entry, no_entry};
@@ -16,7 +18,7 @@ pub mod runs;
 // ---- reading
 
 // Where a key belongs in a page: at the entry that has it, in the gap of a slot, or nowhere in a page that can't be.
-#[derive(Drop)]
+#[derive(Clone, Copy)]
 pub enum Place {
     Here(usize),
     Gap(usize),
@@ -24,14 +26,14 @@ pub enum Place {
 }
 
 // A slot of a page, where the page can be.
-#[derive(Drop)]
+#[derive(Clone, Copy)]
 pub enum Slot {
     At(usize),
     Unsound,
 }
 
 // An entry by value.
-#[derive(Drop)]
+#[derive(Clone, Copy)]
 pub struct Entry {
     pub key: u64,
     pub value: u64,
@@ -169,7 +171,7 @@ pub fn is_full(page: &[u64], most: usize, slot: usize) -> bool
 // ---- one page changed
 
 // What a call that tests its page says.
-#[derive(Drop)]
+#[derive(Clone, Copy)]
 pub enum Change {
     Done,
     Unsound,
@@ -324,7 +326,7 @@ fn narrow(page: &mut [u64], most: usize, n: usize, slot: usize, at: usize)
 // ---- a full page with one entry more
 
 // The entry that goes up from a page that split.
-#[derive(Drop)]
+#[derive(Clone, Copy)]
 pub enum Parting {
     Up(u64, u64),
     Unsound,

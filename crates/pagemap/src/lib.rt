@@ -1,5 +1,7 @@
 // The page map: bit b of word w, counted from the lowest, stands for page 64w + b; 1 means taken. Its words are lent,
 // and one is held at a time. The promises hold for any words; `pages` is P.
+#![tactic(auto)]
+
 ghost use Rattle.std.specs.Prelude.{◌≡◌, ◌+◌, ◌*◌, ◌≤◌, min, eqb, length};
 ghost use Rattle.model.specs.Sums.{sum_to};
 ghost use Rattle.model.specs.PageMap.{bit, bit_at};
@@ -7,7 +9,7 @@ ghost use Rattle.pagemap.specs.Bits.{count_bits, set_bit, clear_bit};
 ghost use Rattle.pagemap.specs.Lowest.{free_in, lowest_of, took, enough, most_words};
 
 // The lowest free page, where there is one.
-#[derive(Drop)]
+#[derive(Clone, Copy)]
 pub enum Lowest {
     Page(usize),
     None,

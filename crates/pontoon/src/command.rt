@@ -24,7 +24,7 @@ pub const INSERT_TICK: usize = 26;
 pub const OPEN_UPPER: usize = 27;
 
 // The verb, which is the number of the command's line, and two numbers: a tick and a place, two ticks, a tick and a number of steps, pages and a kind. With one or two bounds, their kinds.
-#[derive(Drop)]
+#[derive(Clone, Copy)]
 pub struct Command {
     pub verb: usize,
     pub a: u64,

@@ -1,4 +1,6 @@
 // The command `pontoon`: a pool kept in a file, for the bench. This file takes the words and hands them on: to the sample, which works in memory, or to the commands on a file.
+#![tactic(auto)]
+
 pub mod answer;
 pub mod command;
 pub mod complain;

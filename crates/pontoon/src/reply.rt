@@ -93,7 +93,7 @@ pub const SOUND: usize = 33;
 pub const UNSOUND: usize = 34;
 
 // A line and up to two numbers.
-#[derive(Drop)]
+#[derive(Clone, Copy)]
 pub struct Reply(pub usize, pub u64, pub u64);
 
 pub fn plain(line: usize) -> Reply {

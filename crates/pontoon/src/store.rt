@@ -14,7 +14,7 @@ const SOME: usize = 512;
 const NAME: usize = libc::PATH_MAX + 4;
 
 // How many words were loaded; or that the file is no pool by its length; or that it could not be read.
-#[derive(Drop)]
+#[derive(Clone, Copy)]
 pub enum Loaded {
     Words(usize),
     NoPool,

@@ -84,7 +84,7 @@ pub const SCRUB: usize = 22;
 pub const UNKNOWN: usize = 23;
 
 // The fewest words of a command, its own among them, and the most; and how many of those after the file's name are numbers and nothing else.
-#[derive(Drop)]
+#[derive(Clone, Copy)]
 pub struct Shape(pub usize, pub usize, pub usize);
 
 pub fn shape_of(verb: usize) -> Shape {

@@ -8,14 +8,14 @@ pub const LINE: usize = 12288;
 const LAST: u64 = 18446744073709551615;
 
 // How many bytes of the line are filled.
-#[derive(Drop)]
+#[derive(Clone, Copy)]
 pub enum Gathered {
     Bytes(usize),
     TooLong,
 }
 
 // A word as a number, where it is one from 0 to 2^64 - 1.
-#[derive(Drop)]
+#[derive(Clone, Copy)]
 pub enum Number {
     Of(u64),
     None,

@@ -1,7 +1,7 @@
 // Our answers in the list's words, and whether a line tells the same.
 use crate::text::{Word, byte, end, number, same};
 
-#[derive(Drop)]
+#[derive(Clone, Copy)]
 pub enum Ours {
     // Of a call that answers nothing.
     Done,

@@ -2,7 +2,7 @@
 // 0 for its key.
 use crate::text::{Word, byte, end, number, same, which};
 
-#[derive(Drop)]
+#[derive(Clone, Copy)]
 pub struct Line {
     pub name: usize,
     pub at: usize,

@@ -1,5 +1,7 @@
 // The replay: calls that were recorded on Rust's own BTreeMap, BTreeSet and CursorMut, with std's answers (rust/record/record.rs made the list, with rustc 1.95.0), are made again on a pool
 // of 253 pages, and every answer is compared. A line that is not understood differs, and so does a refusal, but for insert after's 6 where std answers UnorderedKeyError.
+#![tactic(auto)]
+
 pub mod answer;
 pub mod calls;
 pub mod line;

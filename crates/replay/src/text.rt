@@ -73,7 +73,7 @@ pub fn which(text: &[u8], at: usize, names: &[u8]) -> u64 {
     NONE
 }
 
-#[derive(Drop)]
+#[derive(Clone, Copy)]
 pub enum Word {
     Number(u64),
     Other,

@@ -1,6 +1,8 @@
 // What the programs share. The table: a place for every key, 0 where it has none. An ordered map by itself, for its
 // places are in key order. A place past its end has no entry, and nothing is stored there. Numbers at random
 // (`random`), and texts printed with numbers.
+#![tactic(auto)]
+
 ghost use Rattle.std.specs.Prelude.{◌≤◌};
 
 pub mod random;

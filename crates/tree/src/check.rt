@@ -16,7 +16,7 @@ use lend::{bits, head, pages};
 use model::{AFTER, COUNT, KEY, KIND, LEAST, LEVELS, MOST, OPEN, ROOT};
 
 // What a walk has met so far: pages, entries and the last key; or that the pool is not sound.
-#[derive(Drop)]
+#[derive(Clone, Copy)]
 pub enum Tally {
     Of(usize, usize, u64),
     Broken,

@@ -16,14 +16,14 @@ use page::Parting;
 use pagemap::Lowest;
 
 // What a page hands up: nothing, or an entry and the page behind it.
-#[derive(Drop)]
+#[derive(Clone, Copy)]
 pub enum Up {
     Whole,
     Split(u64, u64, u64),
 }
 
 // What an insertion answers: that it is done, or that it needs more pages than are free, and no word has changed.
-#[derive(Drop)]
+#[derive(Clone, Copy)]
 pub enum Inserted {
     Done,
     Full,

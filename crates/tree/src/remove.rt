@@ -18,7 +18,7 @@ use model::{COUNT, LEAST, LEVELS, MOST, ROOT};
 use page::Change;
 
 // What a removal below hands up: nothing, or the last entry below, which is to take the place of the one after it.
-#[derive(Drop)]
+#[derive(Clone, Copy)]
 pub enum Gone {
     Taken,
     Last(u64, u64),
@@ -26,7 +26,7 @@ pub enum Gone {
 
 // How a page left with three is mended, by neighbours j and j + 1: the left one gives an entry, the right one does, or
 // they join.
-#[derive(Drop)]
+#[derive(Clone, Copy)]
 pub enum Mending {
     Keep,
     Left(usize),

@@ -13,14 +13,14 @@ use model::{LEVELS, MOST, ROOT};
 use page::{Place, Slot};
 
 // A child's page, where it lies inside the pool.
-#[derive(Drop)]
+#[derive(Clone, Copy)]
 pub enum Below {
     Page(usize),
     Unsound,
 }
 
 // What a search by key finds: the value, with the number of pages read; or that it is absent, which takes all levels.
-#[derive(Drop)]
+#[derive(Clone, Copy)]
 pub enum Got {
     Value(u64, usize),
     Absent,
@@ -28,7 +28,7 @@ pub enum Got {
 }
 
 // What is looked for: the gap before a key or after it, the first gap or the last.
-#[derive(Drop)]
+#[derive(Clone, Copy)]
 pub enum Aim {
     Before(u64),
     After(u64),

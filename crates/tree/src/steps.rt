@@ -14,14 +14,14 @@ use model::MOST;
 use page::Entry;
 
 // The page and slot of an entry, or that there is none.
-#[derive(Drop)]
+#[derive(Clone, Copy)]
 pub enum Spot {
     At(usize, usize),
     End,
 }
 
 // What a step answers. Callers take it apart with `let .. else` and go on only with the entry that it carries.
-#[derive(Drop)]
+#[derive(Clone, Copy)]
 pub enum Step {
     Entry(u64, u64),
     End,

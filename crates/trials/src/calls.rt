@@ -6,7 +6,7 @@ use crate::told::{
 };
 
 // A call: its letter, two figures, which are the kinds of bounds where it takes any, and a key and its value.
-#[derive(Drop)]
+#[derive(Clone, Copy)]
 pub struct Call {
     pub letter: u8,
     pub first: u64,
@@ -16,7 +16,7 @@ pub struct Call {
 }
 
 // Two bounds: their kinds and their keys.
-#[derive(Drop)]
+#[derive(Clone, Copy)]
 pub struct Bounds {
     pub lower: u64,
     pub from: u64,

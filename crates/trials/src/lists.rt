@@ -12,7 +12,7 @@ use table::{PLACES, UNTOUCHED, after, held, key_of, lesser, place_from, random, 
 const ROOM: usize = 256;
 
 // Two bounds: their kinds, and the places of their keys.
-#[derive(Drop)]
+#[derive(Clone, Copy)]
 struct Places {
     lower: u64,
     from: usize,

@@ -1,6 +1,8 @@
 // Calls on real pools, and their answers. First the script in the file stdin: corners of map and set, a line each, and
 // of the cursor document 01's bench cases (a) to (n) and corners, a line each. Then trials of thousands of mixed calls
 // on cursors, maps and sets, each held against a table with a place for every key, which is an ordered map by itself.
+#![tactic(auto)]
+
 pub mod calls;
 pub mod entries;
 pub mod gaps;

@@ -45,7 +45,7 @@ const REPORTS: [u8; 384] =
 
 // By how much which figure rises, whether the answer is right, the place of the table that has another value now, and
 // the cursor's gap.
-#[derive(Drop)]
+#[derive(Clone, Copy)]
 pub struct Outcome {
     pub figure: usize,
     pub amount: u64,

@@ -75,7 +75,7 @@ const LACKS: usize = 25;
 // After a call that changed a word.
 pub const STAR: usize = 26;
 
-#[derive(Drop)]
+#[derive(Clone, Copy)]
 pub struct Told(pub usize, pub u64, pub u64);
 
 pub fn plain(word: usize) -> Told {
