@@ -33,7 +33,8 @@ class Function:
         names = entry["places_by_name"]
         for i, p in enumerate(entry["places"]):
             old = norm(p[0])
-            self.places[old] = (names[i], norm(p[1]) if p[1] else None, norm(p[2][0] or ""), p[2][1] or "")
+            name = re.sub(r"^(In-[A-Z].*?)-\d+$", r"\1", names[i])
+            self.places[old] = (name, norm(p[1]) if p[1] else None, norm(p[2][0] or ""), p[2][1] or "")
             self.arms[old] = entry["arms"][i]
             self.typed[old] = entry["typed"][i]
         self.loops = {norm(l[0][0]): (l[0][1], l[1]) for l in entry["loops"]}
@@ -77,15 +78,17 @@ class Turn:
                             if norm(old) == first:
                                 return ["type_inv", var] + segs[2:]
                 return [self.f.places[p][3]] + segs[1:]
+        if place != self.root:
+            return self.step(self.root, segs)
         self.say(f"{self.path}: no step for {'.'.join(segs)} at {place}")
         return segs
 
     def expr(self, text, env, need=None):
         """The text with each path of a context turned; env has each context's place."""
         lines = text
+        self.root = list(env.values())[0]
         # contexts bound by a let
         while True:
-            m = re.search(rf"let ({ID}) = ({ID})((?:\.before)*) in\s*", lines)
             hit = None
             for m in re.finditer(rf"let ({ID}) = ({ID}?)((?:\.before)*) in(?=\s)", lines):
                 if m[2] in env:
@@ -134,9 +137,7 @@ class Turn:
             if not segs:
                 self.say(f"{self.path}: a bare place {m[0]}")
                 return m[0]
-            if place is None:
-                self.say(f"{self.path}: too far up in {m[0]}")
-                place = env[v]
+            place = place or self.root
             return "c." + ".".join(self.step(place, segs))
         names = "|".join(sorted((re.escape(v) for v in env), key=len, reverse=True))
         return re.sub(rf"(?<![\w.'₀-])({names})((?:\.[\w'+₀-₉-]+)+)", path, lines)
