@@ -25,8 +25,67 @@ def norm(s):
     return re.sub(r"^(.*loop\d*)-again$", r"\1-preserved", s)
 
 
+class Signature:
+    """What a function's signature names: the arguments that are `&mut`, its clauses where there are several."""
+
+    def __init__(self, text):
+        head = text.split("\n{", 1)[0]
+        args = re.search(r"\((.*?)\)", head, re.S)[1]
+        self.muts = re.findall(r"(\w+): &mut", args)
+        self.requires = re.findall(r"^\s*requires (\w+) \{", head, re.M)
+        self.ensures = re.findall(r"^\s*ensures (\w+) \{", head, re.M)
+
+
+def signatures():
+    out = {}
+    for top, _, files in os.walk("crates"):
+        if not re.match(r"crates/\w+/src(/|$)", top):
+            continue
+        for name in files:
+            if not name.endswith(".rt"):
+                continue
+            crate, rest = re.fullmatch(r"crates/(\w+)/src/?(.*)", os.path.join(top, name)[:-3]).groups()
+            path = [crate] + ([] if rest in ("lib", "main") else rest.split("/"))
+            with open(os.path.join(top, name), encoding="utf-8") as f:
+                text = f.read()
+            for m in re.finditer(r"^(?:pub(?:\(crate\))? )?(?:extern \"C\" )?fn (\w+)", text, re.M):
+                out["::".join(path + [m[1]])] = Signature(text[m.start():])
+    return out
+
+
+def named(rhs, names):
+    """A tuple at the end of an answer as a record, where the clauses have names."""
+    t = rhs.rstrip()
+    if len(names) < 2 or not t.endswith(")"):
+        return rhs
+    depth, i = 0, len(t) - 1
+    while i >= 0:
+        depth += (t[i] == ")") - (t[i] == "(")
+        if depth == 0:
+            break
+        i -= 1
+    before = t[:i].rstrip()
+    if before and not before.endswith(" in"):
+        return rhs
+    parts, depth, cur = [], 0, ""
+    for ch in t[i + 1:-1]:
+        depth += (ch in "([{") - (ch in ")]}")
+        if ch == "," and depth == 0:
+            parts.append(cur)
+            cur = ""
+        else:
+            cur += ch
+    if cur.strip():
+        parts.append(cur)
+    if len(parts) != len(names):
+        return rhs
+    return t[:i] + "record { " + "; ".join(f"{n} = {p.strip()}" for n, p in zip(names, parts)) + " }"
+
+
 class Function:
-    def __init__(self, entry):
+    def __init__(self, entry, own, fns):
+        self.own, self.fns = own, fns
+        self.callees = {norm(p[2][0] or ""): fns.get(p[3]) for p in entry["places"] if p[3]}
         self.needs = {norm(o): n for o, n in entry["needs"]}
         self.asked = {n: norm(at[0]) for (o, n), at in zip(entry["needs"], entry["asked_at"])}
         self.places, self.arms, self.typed = {}, {}, {}
@@ -59,6 +118,9 @@ class Turn:
     def step(self, place, segs):
         """The new path of the segments segs, the first of which is a field of `place` or of one above it."""
         first = norm(segs[0])
+        own = self.f.own.requires if self.f.own else []
+        if segs[0] == "requires" and len(segs) > 1 and segs[1].isdigit() and len(own) > 1:
+            return [segs[0], own[int(segs[1])]] + segs[2:]
         if segs[0] in KEEP:
             return segs
         for p in self.f.chain(place):
@@ -77,7 +139,14 @@ class Turn:
                         for var, old in self.f.typed.get(q) or []:
                             if norm(old) == first:
                                 return ["type_inv", var] + segs[2:]
-                return [self.f.places[p][3]] + segs[1:]
+                called = self.f.callees.get(first)
+                rest = segs[1:]
+                if called and len(rest) > 1 and rest[1].isdigit():
+                    by = {"new": called.muts, "auto": called.muts, "ensures": called.ensures}.get(rest[0], [])
+                    if rest[0] != "ensures" or len(by) > 1:
+                        if int(rest[1]) < len(by):
+                            rest = [rest[0], by[int(rest[1])]] + rest[2:]
+                return [self.f.places[p][3]] + rest
         if place != self.root:
             return self.step(self.root, segs)
         self.say(f"{self.path}: no step for {'.'.join(segs)} at {place}")
@@ -140,7 +209,18 @@ class Turn:
             place = place or self.root
             return "c." + ".".join(self.step(place, segs))
         names = "|".join(sorted((re.escape(v) for v in env), key=len, reverse=True))
-        return re.sub(rf"(?<![\w.'₀-])({names})((?:\.[\w'+₀-₉-]+)+)", path, lines)
+        lines = re.sub(rf"(?<![\w.'₀-])({names})((?:\.[\w'+₀-₉-]+)+)", path, lines)
+        lines = re.sub(r"\(not-(?:true|false) _ (c\.[\w.+-]+\.(?:true|false))\)", r"\1", lines)
+        steps = {self.f.places[q][3]: self.f.callees.get(self.f.places[q][2]) for q in self.f.places}
+        for m in re.finditer(rf"let ({ID}) = c\.([^\s.]+) in(?=\s)", lines):
+            called = steps.get(m[2])
+            if called:
+                def field(k, called=called):
+                    by = {"new": called.muts, "auto": called.muts, "ensures": called.ensures}[k[2]]
+                    ok = int(k[3]) < len(by) and (k[2] != "ensures" or len(by) > 1)
+                    return f"{k[1]}.{k[2]}.{by[int(k[3])]}" if ok else k[0]
+                lines = re.sub(rf"(?<![\w.'-])({re.escape(m[1])})\.(new|auto|ensures)\.(\d+)", field, lines)
+        return re.sub(r"not-(?:true|false) _ (c\.[\w.+-]+\.(?:true|false))(?![\w.])", r"\1", re.sub(r"not-(?:true|false) _ \((c\.[\w.+-]+\.(?:true|false))\)", r"\1", lines))
 
 
 def chunks(text):
@@ -221,6 +301,11 @@ def turn(folder, crate, f, say):
                 continue
             args = m[4].split()
             rhs = t.expr(rhs, {args[0]: f.asked[new]}, new)
+            if new.startswith("returns"):
+                rhs = named(rhs, f.own.ensures if f.own else [])
+            elif norm(m[2]).endswith("requires") or "-requires-" in m[2]:
+                called = f.callees.get(norm(re.sub(r"-requires(-\d+)?$", "", m[2])))
+                rhs = named(rhs, called.requires if called else [])
             if len(args) > 1 and re.search(r"κs", rhs):
                 say(f"{folder}: {new} uses κs")
             ans.append("\n".join(note + [f"pub {new} : goal.{new}"] + m[3].split("\n")[:-1] + [f"{new} c ={rhs}"]))
@@ -257,7 +342,7 @@ def turn(folder, crate, f, say):
 
 def main():
     crate, names = sys.argv[1], json.load(open(sys.argv[2]))
-    said = []
+    said, fns = [], signatures()
     for top, _, files in sorted(os.walk(f"crates/{crate}/proofs")):
         if "Proof.antt" not in files or len(sys.argv) > 3 and not any(w in top for w in sys.argv[3:]):
             continue
@@ -269,7 +354,11 @@ def main():
         if key not in names:
             said.append(f"{top}: {key} is not among the names")
             continue
-        turn(top, crate, Function(names[key]), said.append)
+        path = [crate] + os.path.relpath(top, f"crates/{crate}/proofs").replace("+", "").split("/")
+        own = fns.get("::".join(path))
+        if own is None:
+            said.append(f"{top}: no signature of {'::'.join(path)}")
+        turn(top, crate, Function(names[key], own, fns), said.append)
     print("\n".join(said))
 
 
