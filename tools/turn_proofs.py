@@ -53,6 +53,30 @@ def signatures():
     return out
 
 
+def clause(names, segs):
+    """The name of a clause and what is left of the path, where the clauses were a product nested to the right."""
+    for i, name in enumerate(names):
+        if i == len(names) - 1:
+            return name, segs
+        if not segs or segs[0] not in ("0", "1"):
+            return None
+        if segs[0] == "0":
+            return name, segs[1:]
+        segs = segs[1:]
+
+
+def split_tuple(t):
+    parts, depth, cur = [], 0, ""
+    for ch in t[1:-1]:
+        depth += (ch in "([{") - (ch in ")]}")
+        if ch == "," and depth == 0:
+            parts.append(cur)
+            cur = ""
+        else:
+            cur += ch
+    return parts + [cur] if cur.strip() else parts
+
+
 def named(rhs, names):
     """A tuple at the end of an answer as a record, where the clauses have names."""
     t = rhs.rstrip()
@@ -67,16 +91,12 @@ def named(rhs, names):
     before = t[:i].rstrip()
     if before and not before.endswith(" in"):
         return rhs
-    parts, depth, cur = [], 0, ""
-    for ch in t[i + 1:-1]:
-        depth += (ch in "([{") - (ch in ")]}")
-        if ch == "," and depth == 0:
-            parts.append(cur)
-            cur = ""
-        else:
-            cur += ch
-    if cur.strip():
-        parts.append(cur)
+    parts = split_tuple(t[i:])
+    while len(parts) < len(names) and parts[-1].strip().startswith("("):
+        more = split_tuple(parts[-1].strip())
+        if not more:
+            break
+        parts = parts[:-1] + more
     if len(parts) != len(names):
         return rhs
     return t[:i] + "record { " + "; ".join(f"{n} = {p.strip()}" for n, p in zip(names, parts)) + " }"
@@ -109,6 +129,7 @@ class Turn:
         self.f, self.path, self.say = f, path, say
         self.helpers = {}
         self.types = set()
+        self.kinds, self.shifts = {}, {}
 
     def up(self, place, n):
         for _ in range(n):
@@ -119,8 +140,9 @@ class Turn:
         """The new path of the segments segs, the first of which is a field of `place` or of one above it."""
         first = norm(segs[0])
         own = self.f.own.requires if self.f.own else []
-        if segs[0] == "requires" and len(segs) > 1 and segs[1].isdigit() and len(own) > 1:
-            return [segs[0], own[int(segs[1])]] + segs[2:]
+        if segs[0] in ("pre", "requires"):
+            found = clause(own, segs[1:]) if len(own) > 1 else None
+            return ["requires"] + ([found[0]] + found[1] if found else segs[1:])
         if segs[0] in KEEP:
             return segs
         for p in self.f.chain(place):
@@ -141,11 +163,12 @@ class Turn:
                                 return ["type_inv", var] + segs[2:]
                 called = self.f.callees.get(first)
                 rest = segs[1:]
-                if called and len(rest) > 1 and rest[1].isdigit():
-                    by = {"new": called.muts, "auto": called.muts, "ensures": called.ensures}.get(rest[0], [])
-                    if rest[0] != "ensures" or len(by) > 1:
-                        if int(rest[1]) < len(by):
-                            rest = [rest[0], by[int(rest[1])]] + rest[2:]
+                if called and rest and rest[0] == "ensures" and len(called.ensures) > 1:
+                    found = clause(called.ensures, rest[1:])
+                    rest = ["ensures", found[0]] + found[1] if found else rest
+                elif called and len(rest) > 1 and rest[0] in ("new", "auto") and rest[1].isdigit():
+                    if int(rest[1]) < len(called.muts):
+                        rest = [rest[0], called.muts[int(rest[1])]] + rest[2:]
                 return [self.f.places[p][3]] + rest
         if place != self.root:
             return self.step(self.root, segs)
@@ -156,6 +179,23 @@ class Turn:
         """The text with each path of a context turned; env has each context's place."""
         lines = text
         self.root = list(env.values())[0]
+        # functions from a place to one above it
+        some = "|".join(sorted((re.escape(v) for v in self.shifts), key=len, reverse=True))
+        while some:
+            new = re.sub(rf"\((?:{some}) (?:({ID}?)(?:\.before)*|\(({ID}?)(?:\.before)*\))\)", lambda m: m[1] or m[2], lines)
+            new = re.sub(rf"(?<![\w.'-])(?:{some}) (?:({ID}?)(?:\.before)*|\(({ID}?)(?:\.before)*\))(?=[\s)\],;]|$)", lambda m: m[1] or m[2], new)
+            if new == lines:
+                break
+            lines = new
+        # what was asked, bound by a let
+        for m in list(re.finditer(rf"let ({ID}) = ({ID}?)((?:\.before)*)\.(?:pre|requires) in(?=\s)", lines)):
+            lines = re.sub(rf"(?<![\w.'-]){re.escape(m[1])}(?=\.\d)", f"{m[2]}{m[3]}.requires", lines)
+        # an arm's parts, bound by a let
+        for m in list(re.finditer(rf"let ({ID}) = ({ID}?(?:\.before)*\.[\w'-]+\.given) in(?=\s)", lines)):
+            bare = re.findall(rf"(?<![\w.'-]){re.escape(m[1])}(?![\w'-])(?!\.\d)", lines.replace(m[0], ""))
+            if not bare:
+                lines = re.sub(re.escape(m[0]) + r"[ \t]*\n?[ \t]*", "", lines)
+                lines = re.sub(rf"(?<![\w.'-]){re.escape(m[1])}(?=\.\d)", m[2], lines)
         # contexts bound by a let
         while True:
             hit = None
@@ -254,6 +294,21 @@ def turn(folder, crate, f, say):
     head, uses = split_comment(parts[0])
     uses = [u for u in uses.split("\n") if not re.search(r"\.(Statement\.\{statement\}|Tie as tie)$", u)]
     inv, ans = [], []
+    kept = [parts[0]]
+    for chunk in parts[1:]:
+        note, body = split_comment(chunk)
+        a = re.fullmatch(rf"abbrev ({ID}) : Type 0\n\1 = tie\.([\w'-]+)[^\n]*", body)
+        body = re.sub(rf"(?<![\w.'-])({'|'.join(map(re.escape, t.kinds)) or '!'})(?= →)", lambda m: "tie." + t.kinds[m[1]], body)
+        b = re.match(rf"abbrev ({ID}) : (?:tie\.)?([\w'-]+)(?: [^→\n]*)? → tie\.([\w'-]+)[^→\n]*\n", body)
+        if a:
+            t.kinds[a[1]] = norm(a[2])
+        elif b:
+            t.shifts[b[1]] = norm(b[3])
+        else:
+            kept.append(chunk)
+    parts = kept
+    for k, place in t.kinds.items():
+        parts = [re.sub(rf"(?<![\w.'-]){re.escape(k)}(?= →|\))", "tie." + place, x) for x in parts]
     for chunk in parts[1:]:
         note, body = split_comment(chunk)
         m = re.match(rf"(?:abbrev )?(?:pub )?({ID}) :((?:.|\n)*?)\n(?=unfolding |(?:\S))", body)

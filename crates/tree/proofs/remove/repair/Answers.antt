@@ -1,0 +1,59 @@
+-- `remove::repair` meets its contract: each answer by the tests that led there.
+use mathlib.Core.Path.{◌≡◌}
+use mathlib.Core.Logic.{⊎_elim}
+use Prim.Native.Nat.{◌-◌}
+use native.Mathlib.Numerals.{add-one}
+use native.Mathlib.Omega.{arith}
+use borrow.Author.Rules.{rules}
+use Rattle.model.specs.Page.{count_of}
+use Rattle.lend.specs.Pages.{least, page_in}
+use Rattle.tree.specs.Remove.{count_below}
+use Rattle.tree.proofs.Planning.{PoorLeft, PoorRight, repair-left, repair-right, repair-join, repair-first}
+use Rattle.tree.proofs.remove.repair.Goals as goal
+use Rattle.tree.proofs.remove.repair.Goals.{Joined-i-count, Joined-i-gt0}
+
+pub returns-then-count_below-gt-LEAST : goal.returns-then-count_below-gt-LEAST
+returns-then-count_below-gt-LEAST c =
+    let a = c.args in
+    repair-left least (count_of (page_in a.pool.now a.u)) (count_below a.pool.now a.u) a.i (a.i - 1) (omega arith) (search rules)
+
+-- the left neighbour has none to give
+left-poor : (c : Joined-i-gt0) →
+    let a = c.args in
+    PoorLeft least (count_of (page_in a.pool.now a.u)) (count_below a.pool.now a.u) a.i
+left-poor c j e =
+    let a = c.args in
+    ⊎_elim
+    (λ g.
+    let place : a.i - 1 ≡ j = omega arith in
+    let told = rw place at g.1.ensures in
+    omega (arith, g.2.left))
+    (λ g. absurd (omega (arith, g.left)))
+    c.if-i-gt0.branch
+
+pub returns-then-count_below-gt-LEAST-2 : goal.returns-then-count_below-gt-LEAST-2
+returns-then-count_below-gt-LEAST-2 c =
+    let a = c.args in
+    let told = rw (add-one a.i) at c.count_below-then-i-count.ensures in
+    repair-right least (count_of (page_in a.pool.now a.u)) (count_below a.pool.now a.u) a.i (left-poor (goal.at.returns-then-count_below-gt-LEAST-2 c).Joined-i-gt0) (search rules) (omega arith)
+
+-- nor has the right one
+right-poor : (c : Joined-i-count) →
+    let a = c.args in
+    PoorRight least (count_of (page_in a.pool.now a.u)) (count_below a.pool.now a.u) a.i
+right-poor c h =
+    let a = c.args in
+    ⊎_elim
+    (λ g. let told = rw (add-one a.i) at g.1.ensures in omega (arith, g.2.left))
+    (λ g. absurd (omega (arith, g.left, c.count.ensures)))
+    c.if-i-count.branch
+
+pub returns-then-i-gt0-2 : goal.returns-then-i-gt0-2
+returns-then-i-gt0-2 c =
+    let a = c.args in
+    repair-join least (count_of (page_in a.pool.now a.u)) (count_below a.pool.now a.u) a.i (a.i - 1) (omega arith) (left-poor (goal.at.returns-then-i-gt0-2 c).Joined-i-gt0) (right-poor (goal.at.returns-then-i-gt0-2 c).Joined-i-count)
+
+pub returns : goal.returns
+returns c =
+    let a = c.args in
+    repair-first least (count_of (page_in a.pool.now a.u)) (count_below a.pool.now a.u) a.i (omega arith) (right-poor (goal.at.returns c).Joined-i-count)
