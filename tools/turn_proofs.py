@@ -363,7 +363,7 @@ def turn(folder, crate, f, say):
                 rhs = named(rhs, called.requires if called else [])
             if len(args) > 1 and re.search(r"κs", rhs):
                 say(f"{folder}: {new} uses κs")
-            ans.append("\n".join(note + [f"pub {new} : goal.{new}"] + m[3].split("\n")[:-1] + [f"{new} c ={rhs}"]))
+            ans.append("\n".join(note + [f"pub {new} : goal.{new}"] + m[3].split("\n")[:-1] + [" ".join([new, "c"] + [x for x in args[1:] if x != "κs"]) + f" ={rhs}"]))
             continue
         name = re.match(rf"(?:abbrev )?(?:pub )?({ID}) :", body)
         if name and name[1] in t.helpers:

@@ -17,7 +17,7 @@ use Rattle.model.proofs.Head.{head-facts}
 use Rattle.lend.proofs.Fitting.{headed-sized}
 use Rattle.tree.proofs.Inserting.{Topped, topped-long, topped-count, inserts-full, inserts-done}
 use Rattle.tree.proofs.insert.insert.Goals as goal
-use Rattle.tree.proofs.insert.insert.Goals.{After-needed-k, Joined-insert_along, Joined-k-gt0}
+use Rattle.tree.proofs.insert.insert.Goals.{After-needed-k, Joined-insert_along, Joined-k-gt0, then-k-gt0+else-not-has_free, else-k-gt0, in-Whole, in-Split}
 
 sized : (c : After-needed-k) → Sized c.args.pool.now
 sized c = headed-sized c.args.pool.now c.requires.pool_value
@@ -36,7 +36,11 @@ insert_along-requires c = record { sized = sized (goal.at.insert_along-requires 
 
 -- the pages that are needed are free
 enough : (c : Joined-k-gt0) → c.needed-k.result ≤ length (frees_in c.args.pool.now)
-enough c = ⊎_elim (λ g. leb-true _ _ (sym g.2.ensures ∙ not-false _ g.3.left)) (λ g. omega (arith, g.left)) c.if-k-gt0.branch
+enough c =
+    elim c.if-k-gt0.branch [
+      | then-k-gt0+else-not-has_free w ↦ leb-true _ _ (sym w.has_free.ensures ∙ w.if-not-has_free.false)
+      | else-k-gt0 w ↦ omega (arith, w.if-k-gt0.false)
+    ]
 
 pub new_root-requires : goal.new_root-requires
 unfolding geometry_of
@@ -47,22 +51,22 @@ new_root-requires c =
 
 topped : (c : Joined-insert_along) →
     Topped c.args.pages.now c.insert_along.result c.insert_along.new.pool c.match-insert_along.pool
-topped c = ⊎_elim
-    (λ g. rw g.1.given.1 g.2)
-    (λ g. rw (g.1.given.1, g.8, ← g.3.ensures) g.5.ensures)
-    c.match-insert_along.branch
+topped c =
+    elim c.match-insert_along.branch [
+      | in-Whole w ↦ rw w.in-Whole.is w.pool-is
+      | in-Split w ↦ rw (w.in-Split.is, w.pool-is, ← w.root_of-left.ensures) w.new_root.ensures
+    ]
 
 long : (c : Joined-insert_along) → length c.match-insert_along.pool ≡ length c.args.pool.now
 long c =
     topped-long c.args.pages.now c.insert_along.result c.insert_along.new.pool c.match-insert_along.pool (topped c)
     ∙ c.insert_along.ensures.long
 
-stored : (c : Joined-insert_along) → (first_word today 0 ≤ length c.match-insert_along.pool) × (word c.match-insert_along.pool 2 ≤ most_entries least * most_pages today)
+stored : (c : Joined-insert_along) → Sized c.args.pool.now → (first_word today 0 ≤ length c.match-insert_along.pool) × (word c.match-insert_along.pool 2 ≤ most_entries least * most_pages today)
 unfolding geometry_of
-stored c =
+stored c z =
     let w = c.args.pool.now in
     let f = head-facts w c.requires.pool_value in
-    let z = sized c in
     omega (
       arith,
       long c,
@@ -73,13 +77,13 @@ stored c =
     )
 
 pub bounds-pool-2 : goal.bounds-pool-2
-bounds-pool-2 c = let k = stored (goal.at.bounds-pool-2 c).Joined-insert_along in omega arith
+bounds-pool-2 c = let k = stored (goal.at.bounds-pool-2 c).Joined-insert_along (sized (goal.at.bounds-pool-2 c).After-needed-k) in omega arith
 
 pub overflow_add-pool : goal.overflow_add-pool
-overflow_add-pool c = let k = stored (goal.at.overflow_add-pool c).Joined-insert_along in omega arith
+overflow_add-pool c = let k = stored (goal.at.overflow_add-pool c).Joined-insert_along (sized (goal.at.overflow_add-pool c).After-needed-k) in omega arith
 
 pub bounds-pool-2-2 : goal.bounds-pool-2-2
-bounds-pool-2-2 c = let k = stored (goal.at.bounds-pool-2-2 c).Joined-insert_along in omega arith
+bounds-pool-2-2 c = let k = stored (goal.at.bounds-pool-2-2 c).Joined-insert_along (sized (goal.at.bounds-pool-2-2 c).After-needed-k) in omega arith
 
 pub shape_of-pool : goal.shape_of-pool
 shape_of-pool c = length-set c.match-insert_along.pool 2 _ ∙ long (goal.at.shape_of-pool c).Joined-insert_along

@@ -18,8 +18,7 @@ returns-in_default c =
 inside : (c : In-Page) → Inside c.in-Page.q c.args.pool.now
 inside c =
     let w = c.args.pool.now in
-    let q = c.q-1 in
-    lowest-inside w w q.given.0.0 (sym c.take_lowest.ensures.0 ∙ q.given.1) refl
+    lowest-inside w w c.in-Page.q (sym c.take_lowest.ensures.0 ∙ c.in-Page.is) refl
 
 pub single-requires : goal.single-requires
 single-requires c =
@@ -37,9 +36,5 @@ pub returns : goal.returns
 returns c =
     let m = c.take_lowest in
     let a = c.args in
-    let q = c.q-1 in
     let w = c.single.ensures in
-    roots-done a.levels (entry a.key a.value) a.left a.right q.given.0.0 (omega arith) m.ensures.0 q.given.1 m.ensures.1 w.0 w.1
-
-pub shape_of-pool : goal.shape_of-pool
-shape_of-pool c = (returns-2 c).long
+    roots-done a.levels (entry a.key a.value) a.left a.right c.in-Page.q (omega arith) m.ensures.0 c.in-Page.is m.ensures.1 w.holds w.only_pages

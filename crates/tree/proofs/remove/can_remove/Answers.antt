@@ -34,7 +34,7 @@ pub count-requires : goal.count-requires
 count-requires c = (place (goal.at.count-requires c).In-loop-i (at (goal.at.count-requires c).In-loop-i) (omega arith)).0
 
 pub returns-then-count-gt-LEAST : goal.returns-then-count-gt-LEAST
-returns-then-count-gt-LEAST c = refl
+returns-then-count-gt-LEAST c low h t g s b p = refl
 
 pub overflow_sub-i-in-loop-i : goal.overflow_sub-i-in-loop-i
 overflow_sub-i-in-loop-i c = (above (goal.at.overflow_sub-i-in-loop-i c).In-loop-i).0
@@ -68,4 +68,4 @@ pub loop-i-preserved : goal.loop-i-preserved
 loop-i-preserved c = omega (arith, (above (goal.at.loop-i-preserved c).In-loop-i).1)
 
 pub returns : goal.returns
-returns c = refl
+returns c low h t g s b p = refl

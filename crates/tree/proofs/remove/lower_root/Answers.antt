@@ -29,10 +29,7 @@ bounds-pool-4 c = simp length-set (search rules)
 pub returns-then-levels-eq1 : goal.returns-then-levels-eq1
 returns-then-levels-eq1 c =
     let a = c.args in
-    lowers-done a.pool.now a.root a.levels 0 0 (empty (goal.at.returns-then-levels-eq1 c).Else-count-ne0) (omega arith) c.free.ensures (λ _. (refl, refl)) (λ two c here. absurd (omega (arith, c.if-levels-eq1.true)))
-
-pub shape_of-pool-then-levels-eq1 : goal.shape_of-pool-then-levels-eq1
-shape_of-pool-then-levels-eq1 c = (returns-2 c).long
+    lowers-done a.pool.now a.root a.levels 0 0 (empty (goal.at.returns-then-levels-eq1 c).Else-count-ne0) (omega arith) c.free.ensures (λ _. (refl, refl)) (λ two d here. absurd (omega (arith, c.if-levels-eq1.true)))
 
 pub returns-in_default : goal.returns-in_default
 returns-in_default c =
@@ -54,6 +51,3 @@ returns c =
     lowers-done a.pool.now a.root a.levels (c.in-Page.c + 1) (a.levels - 1) (empty (goal.at.returns c).Else-count-ne0) (omega arith) c.free-2.ensures
     (λ one. absurd (c.if-levels-eq1.false one))
     (λ two d here. (add-one _ ∙ ap suc (one-page c.in-Page.is (c.child.ensures ∙ here)), refl))
-
-pub shape_of-pool : goal.shape_of-pool
-shape_of-pool c = (returns-4 c).long

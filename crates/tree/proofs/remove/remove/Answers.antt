@@ -59,11 +59,10 @@ lower_root-requires c =
 long : (c : After-lower_root) → length c.lower_root.new.pool ≡ length c.args.pool.now
 long c = c.lower_root.ensures.long ∙ c.remove_along.ensures.long
 
-stored : (c : After-lower_root) → (first_word today 0 ≤ length c.lower_root.new.pool) × (1 ≤ word c.lower_root.new.pool 2)
-stored c =
+stored : (c : After-lower_root) → Sized c.args.pool.now → 1 ≤ length c.args.pages.now
+    → (first_word today 0 ≤ length c.lower_root.new.pool) × (1 ≤ word c.lower_root.new.pool 2)
+stored c z l =
     let w = c.args.pool.now in
-    let z = sized e in
-    let l = some e in
     omega (
       arith,
       long c,
@@ -73,13 +72,13 @@ stored c =
     )
 
 pub bounds-pool-2 : goal.bounds-pool-2
-bounds-pool-2 c = let k = stored (goal.at.bounds-pool-2 c).After-lower_root in omega arith
+bounds-pool-2 c = let k = stored (goal.at.bounds-pool-2 c).After-lower_root (sized (goal.at.bounds-pool-2 c).Else-pages-eq0) (some (goal.at.bounds-pool-2 c).Else-pages-eq0) in omega arith
 
 pub overflow_sub-pool : goal.overflow_sub-pool
-overflow_sub-pool c = (stored (goal.at.overflow_sub-pool c).After-lower_root).1
+overflow_sub-pool c = (stored (goal.at.overflow_sub-pool c).After-lower_root (sized (goal.at.overflow_sub-pool c).Else-pages-eq0) (some (goal.at.overflow_sub-pool c).Else-pages-eq0)).1
 
 pub bounds-pool-2-2 : goal.bounds-pool-2-2
-bounds-pool-2-2 c = let k = stored (goal.at.bounds-pool-2-2 c).After-lower_root in omega arith
+bounds-pool-2-2 c = let k = stored (goal.at.bounds-pool-2-2 c).After-lower_root (sized (goal.at.bounds-pool-2-2 c).Else-pages-eq0) (some (goal.at.bounds-pool-2-2 c).Else-pages-eq0) in omega arith
 
 pub shape_of-pool : goal.shape_of-pool
 shape_of-pool c = length-set c.lower_root.new.pool 2 _ ∙ long (goal.at.shape_of-pool c).After-lower_root

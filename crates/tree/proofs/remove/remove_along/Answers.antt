@@ -13,12 +13,9 @@ use Rattle.tree.specs.Remove.{count_below, Mends, Inherits, RemovesBelow}
 use Rattle.tree.proofs.Paths.{path-at}
 use Rattle.tree.proofs.Shrinking.{along-leaf, along-upper}
 use Rattle.tree.proofs.Settling.{keeps, along-settled}
+use Rattle.tree.proofs.remove.remove_along.Invariants.{Onward}
 use Rattle.tree.proofs.remove.remove_along.Goals as goal
 use Rattle.tree.proofs.remove.remove_along.Goals.{After-inherit-gone, At-loop-i, In-loop-i, Then-count_below-ge-LEAST}
-
--- from place i₀ to place i, whatever the pool was before
-abbrev Onward : List ℕ → List ℕ → ℕ → List ℕ → Gone → ℕ → List ℕ → Gone → Type 0
-Onward ps ss i₀ w₀ r₀ i w₁ r₁ = (w : List ℕ) → RemovesBelow w (drop i₀ ps) (drop i₀ ss) w₀ r₀ → RemovesBelow w (drop i ps) (drop i ss) w₁ r₁
 
 -- the place that a turn is at: its page lies inside, and its slot is a slot
 place : (c : In-loop-i) →
@@ -35,8 +32,9 @@ place c =
 heir-place : (c : After-inherit-gone) →
     let a = c.args in
     let i = c.loop-i.i in
-    (first_word today 0 ≤ length c.inherit-gone.new.pool) × Inside (get_or a.pages.now (i - 1) 0) c.inherit-gone.new.pool × (get_or a.slots.now (i - 1) 0 ≤ most)
-heir-place c = omega (arith, place c.before.before.before.before, c.inherit-gone.ensures.only.long)
+    (i < length a.pages.now) × (first_word today 0 ≤ length c.loop-i.pool) × Inside (get_or a.pages.now (i - 1) 0) c.loop-i.pool × (get_or a.slots.now (i - 1) 0 ≤ most)
+    → (first_word today 0 ≤ length c.inherit-gone.new.pool) × Inside (get_or a.pages.now (i - 1) 0) c.inherit-gone.new.pool × (get_or a.slots.now (i - 1) 0 ≤ most)
+heir-place c at = omega (arith, at, c.inherit-gone.ensures.only.long)
 
 -- what is done where a turn begins
 so_far : (c : At-loop-i) →
@@ -52,14 +50,15 @@ one_up : (c : After-inherit-gone) (w₁ : List ℕ) →
     let a = c.args in
     let i = c.loop-i.i in
     Mends (get_or a.pages.now (i - 1) 0) (get_or a.slots.now (i - 1) 0) c.inherit-gone.new.pool w₁
-    → invariant-loop c.take_out-gone.new.pool a.pages.now a.slots.now (length a.pages.now - 1) c.take_out-gone.result w₁ (i - 1) c.inherit-gone.result
-one_up c w₁ mends =
+    → i < length a.pages.now
+    → (i - 1 ≤ length a.pages.now - 1) × (length w₁ ≡ length c.take_out-gone.new.pool) × Onward a.pages.now a.slots.now (length a.pages.now - 1) c.take_out-gone.new.pool c.take_out-gone.result (i - 1) w₁ c.inherit-gone.result
+one_up c w₁ mends few =
     let a = c.args in (
       omega (arith, c.loop-i.invariant.0),
       mends.long ∙ c.inherit-gone.ensures.only.long ∙ c.loop-i.invariant.1,
       λ w b.
           along-upper w c.loop-i.pool c.inherit-gone.new.pool w₁ a.pages.now a.slots.now c.loop-i.i c.loop-i.gone c.inherit-gone.result
-          c.loop-i-test.true (place c).0 (c.loop-i.invariant.2 w b) c.inherit-gone.ensures mends,
+          c.loop-i-test.true few (c.loop-i.invariant.2 w b) c.inherit-gone.ensures mends,
     )
 
 -- the child has enough
@@ -82,7 +81,7 @@ inherit-gone-requires c = (place (goal.at.inherit-gone-requires c).In-loop-i).2
 
 pub count_below-requires : goal.count_below-requires
 count_below-requires c =
-    let at = heir-place (goal.at.count_below-requires c).After-inherit-gone in (at.0, at.1)
+    let at = heir-place (goal.at.count_below-requires c).After-inherit-gone (place (goal.at.count_below-requires c).In-loop-i) in (at.0, at.1)
 
 -- nothing is handed up and the child has enough: the pages above stay
 pub returns-in-Taken : goal.returns-in-Taken
@@ -97,14 +96,14 @@ returns-in-Taken c =
 
 pub loop-i-preserved-in_default : goal.loop-i-preserved-in_default
 loop-i-preserved-in_default c =
-    one_up (goal.at.loop-i-preserved-in_default c).After-inherit-gone c.inherit-gone.new.pool (keeps _ _ c.inherit-gone.new.pool (enough (goal.at.loop-i-preserved-in_default c).Then-count_below-ge-LEAST))
+    one_up (goal.at.loop-i-preserved-in_default c).After-inherit-gone c.inherit-gone.new.pool (keeps _ _ c.inherit-gone.new.pool (enough (goal.at.loop-i-preserved-in_default c).Then-count_below-ge-LEAST)) (place (goal.at.loop-i-preserved-in_default c).In-loop-i).0
 
 pub mend-requires : goal.mend-requires
-mend-requires c = heir-place (goal.at.mend-requires c).After-inherit-gone
+mend-requires c = heir-place (goal.at.mend-requires c).After-inherit-gone (place (goal.at.mend-requires c).In-loop-i)
 
 pub loop-i-preserved : goal.loop-i-preserved
 loop-i-preserved c =
-    one_up (goal.at.loop-i-preserved c).After-inherit-gone c.mend.new.pool c.mend.ensures
+    one_up (goal.at.loop-i-preserved c).After-inherit-gone c.mend.new.pool c.mend.ensures (place (goal.at.loop-i-preserved c).In-loop-i).0
 
 pub returns : goal.returns
 returns c =

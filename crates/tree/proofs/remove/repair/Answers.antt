@@ -10,7 +10,7 @@ use Rattle.lend.specs.Pages.{least, page_in}
 use Rattle.tree.specs.Remove.{count_below}
 use Rattle.tree.proofs.Planning.{PoorLeft, PoorRight, repair-left, repair-right, repair-join, repair-first}
 use Rattle.tree.proofs.remove.repair.Goals as goal
-use Rattle.tree.proofs.remove.repair.Goals.{Joined-i-count, Joined-i-gt0}
+use Rattle.tree.proofs.remove.repair.Goals.{Joined-i-count, Joined-i-gt0, then-i-gt0+else-count_below-gt-LEAST, else-i-gt0, then-i-count+else-count_below-gt-LEAST-2, else-i-count}
 
 pub returns-then-count_below-gt-LEAST : goal.returns-then-count_below-gt-LEAST
 returns-then-count_below-gt-LEAST c =
@@ -23,13 +23,13 @@ left-poor : (c : Joined-i-gt0) →
     PoorLeft least (count_of (page_in a.pool.now a.u)) (count_below a.pool.now a.u) a.i
 left-poor c j e =
     let a = c.args in
-    ⊎_elim
-    (λ g.
-    let place : a.i - 1 ≡ j = omega arith in
-    let told = rw place at g.1.ensures in
-    omega (arith, g.2.left))
-    (λ g. absurd (omega (arith, g.left)))
-    c.if-i-gt0.branch
+    elim c.if-i-gt0.branch [
+      | then-i-gt0+else-count_below-gt-LEAST w ↦
+          let place : a.i - 1 ≡ j = omega arith in
+          let told = rw place at w.count_below.ensures in
+          omega (arith, w.if-count_below-gt-LEAST.false)
+      | else-i-gt0 w ↦ absurd (omega (arith, w.if-i-gt0.false))
+    ]
 
 pub returns-then-count_below-gt-LEAST-2 : goal.returns-then-count_below-gt-LEAST-2
 returns-then-count_below-gt-LEAST-2 c =
@@ -43,10 +43,12 @@ right-poor : (c : Joined-i-count) →
     PoorRight least (count_of (page_in a.pool.now a.u)) (count_below a.pool.now a.u) a.i
 right-poor c h =
     let a = c.args in
-    ⊎_elim
-    (λ g. let told = rw (add-one a.i) at g.1.ensures in omega (arith, g.2.left))
-    (λ g. absurd (omega (arith, g.left, c.count.ensures)))
-    c.if-i-count.branch
+    elim c.if-i-count.branch [
+      | then-i-count+else-count_below-gt-LEAST-2 w ↦
+          let told = rw (add-one a.i) at w.count_below-then-i-count.ensures in
+          omega (arith, w.if-count_below-gt-LEAST-2.false)
+      | else-i-count w ↦ absurd (omega (arith, w.if-i-count.false, c.count.ensures))
+    ]
 
 pub returns-then-i-gt0-2 : goal.returns-then-i-gt0-2
 returns-then-i-gt0-2 c =
