@@ -2,7 +2,6 @@
 use mathlib.Core.Path.{◌≡◌, sym, ◌∙◌}
 use mathlib.Core.Bool.{false}
 use native.Mathlib.Omega.{arith}
-use borrow.Author.Rules.{rules}
 use Rattle.page.specs.declared.Slot.TheVariants.{At}
 use Rattle.page.specs.Runs.{up_to}
 use Rattle.page.specs.Page.{gap_in}

@@ -2,7 +2,6 @@
 use mathlib.Core.Path.{◌≡◌, sym, ◌∙◌}
 use mathlib.Core.Bool.{true}
 use native.Mathlib.Omega.{arith}
-use borrow.Author.Rules.{rules}
 use Rattle.model.specs.Tree.{entry}
 use Rattle.model.specs.Page.{entries_of, children_of}
 use Rattle.page.specs.Node.{more}

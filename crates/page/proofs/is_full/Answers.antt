@@ -1,5 +1,4 @@
 -- `page::is_full` meets its contract: its two tests, in their order.
-use borrow.Author.Rules.{rules}
 use borrow.Author.Tests.{eq-eqb, ne_eqb}
 use Rattle.model.specs.Page.{count_of}
 use Rattle.page.specs.Page.{full_at}

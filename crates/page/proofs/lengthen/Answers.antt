@@ -1,10 +1,8 @@
 -- `page::lengthen` meets its contract: the keys, the values and, above the leaves, the children have one more behind the last.
-use mathlib.Core.Path.{◌≡◌, ap}
+use mathlib.Core.Path.{◌≡◌}
 use Prim.Native.Nat.{suc, ◌+◌}
 use native.Mathlib.Numerals.{add-one}
 use native.Mathlib.Omega.{arith}
-use lib.ListN.{length, length-set}
-use borrow.Author.Rules.{rules}
 use Rattle.page.proofs.Pages.{above-done, leaf-left, widened}
 use Rattle.page.proofs.lengthen.Goals as goal
 use Rattle.page.proofs.lengthen.Goals.{then-page-ne0, else-page-ne0}

@@ -1,8 +1,4 @@
 -- `page::narrow` meets its contract: the keys, the values and, above the leaves, the children have one less.
-use mathlib.Core.Path.{◌≡◌, ap}
-use native.Mathlib.Omega.{arith}
-use lib.ListN.{length, length-set}
-use borrow.Author.Rules.{rules}
 use Rattle.page.proofs.Pages.{above-done, leaf-left, narrowed}
 use Rattle.page.proofs.narrow.Goals as goal
 use Rattle.page.proofs.narrow.Goals.{then-page-ne0, else-page-ne0}

@@ -4,7 +4,6 @@ use mathlib.Core.Bool.{true}
 use Prim.Native.Nat.{◌≤◌, ◌<◌}
 use native.Mathlib.Omega.{arith}
 use lib.ListN.{length-set}
-use borrow.Author.Rules.{rules}
 use Rattle.model.specs.Page.{count_of}
 use Rattle.page.specs.Page.{holds_at}
 use Rattle.page.proofs.Pages.{holds-facts, instead-holds, changes-done, changes-none}

@@ -1,7 +1,6 @@
 -- `page::single` meets its contract: its six stores.
 use native.Mathlib.Omega.{arith}
 use lib.ListN.{length-set}
-use borrow.Author.Rules.{rules}
 use Rattle.page.proofs.Pages.{alone-holds}
 use Rattle.page.proofs.single.Goals as goal
 

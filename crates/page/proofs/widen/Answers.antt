@@ -1,9 +1,6 @@
 -- `page::widen` meets its contract: the keys, the values and, above the leaves, the children have one more.
-use mathlib.Core.Path.{◌≡◌, ap}
 use Prim.Native.Nat.{◌-◌}
 use native.Mathlib.Omega.{arith}
-use lib.ListN.{length, length-set}
-use borrow.Author.Rules.{rules}
 use Rattle.page.proofs.Pages.{above-done, leaf-left, widened}
 use Rattle.page.proofs.widen.Goals as goal
 use Rattle.page.proofs.widen.Goals.{then-page-ne0, else-page-ne0}

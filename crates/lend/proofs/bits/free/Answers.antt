@@ -1,5 +1,4 @@
 -- `bits::free` meets its contract: the map is lent and given back with the page freed.
-use borrow.Author.Rules.{rules}
 use Rattle.model.specs.PageMap.{map_at}
 use Rattle.lend.proofs.Touching.{map_back}
 use Rattle.lend.proofs.bits.free.Goals as goal

@@ -1,5 +1,4 @@
 -- `bits::has_free` meets its contract: what `pagemap::has_free` says of the words lent.
-use borrow.Author.Rules.{rules}
 use Rattle.model.specs.PageMap.{map_at}
 use Rattle.lend.proofs.bits.has_free.Goals as goal
 

@@ -1,5 +1,4 @@
 -- `bits::is_taken` meets its contract: what `pagemap::is_taken` says of the words lent.
-use borrow.Author.Rules.{rules}
 use Rattle.model.specs.PageMap.{map_at}
 use Rattle.lend.proofs.bits.is_taken.Goals as goal
 

@@ -1,5 +1,4 @@
 -- `bits::take_lowest` meets its contract: the map is lent and given back with the lowest free page taken.
-use borrow.Author.Rules.{rules}
 use Rattle.model.specs.PageMap.{map_at}
 use Rattle.lend.proofs.Touching.{map_back}
 use Rattle.lend.proofs.bits.take_lowest.Goals as goal

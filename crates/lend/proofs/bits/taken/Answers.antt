@@ -1,5 +1,4 @@
 -- `bits::taken` meets its contract: what `pagemap::taken` says of the words lent.
-use borrow.Author.Rules.{rules}
 use Rattle.model.specs.PageMap.{map_at}
 use Rattle.lend.proofs.bits.taken.Goals as goal
 

@@ -3,8 +3,6 @@ use mathlib.Core.Path.{◌≡◌, sym, ◌∙◌}
 use mathlib.Core.Bool.{true}
 use native.Mathlib.Omega.{arith}
 use lib.ListN.{length}
-use borrow.Author.Rules.{rules}
-use borrow.Author.Tests.{not-true, not-false}
 use Rattle.model.specs.Layout.{allowed, today}
 use Rattle.model.proofs.Lawful.{allowed-facts}
 use Rattle.lend.proofs.Fitting.{headed-not, headed-no, headed-is}

@@ -3,8 +3,7 @@ use mathlib.Core.Path.{sym, ◌∙◌}
 use mathlib.Core.List.{[], ◌∷◌}
 use native.Mathlib.Omega.{arith}
 use lib.ListN.{take, drop}
-use borrow.Author.Rules.{rules}
-use borrow.Author.Tests.{lt-leb, le-leb, eq-eqb, ne_eqb, not-true, not-false}
+use borrow.Author.Tests.{lt-leb, le-leb, eq-eqb, ne_eqb}
 use Rattle.model.specs.Layout.{word, today}
 use Rattle.model.specs.Head.{number_tests, both_or_neither}
 use Rattle.model.proofs.Basics.{every-all, every-then, every-fails, every_one}

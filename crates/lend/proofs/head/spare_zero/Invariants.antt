@@ -1,15 +1,13 @@
 -- `head::spare_zero` meets its contract. The loop keeps what is left of the test: the ORed words are 0, and so are the
 -- words from i on.
-use mathlib.Core.Path.{◌≡◌, sym, ap, ◌∙◌}
+use mathlib.Core.Path.{◌≡◌}
 use mathlib.Core.List.{map}
 use Prim.Native.Nat.{◌-◌, ◌≤◌}
-use native.Mathlib.Omega.{arith}
 use lib.Dec.{eqb}
-use borrow.Author.Rules.{rules}
 use Rattle.model.specs.Basics.{every}
 use Rattle.model.specs.Layout.{head_words}
 use Rattle.model.specs.Head.{spare_words}
-use Rattle.lend.proofs.Fitting.{spare_left, spare-begins, spare-turn, spare-ends}
+use Rattle.lend.proofs.Fitting.{spare_left}
 use Rattle.lend.proofs.head.spare_zero.Given as goal
 
 abbrev pub invariant-loop-i : goal.invariant-loop-i

@@ -1,9 +1,8 @@
 -- `pages::append` meets its contract: page `l` holds its own entries, the one between and the first j of page `r` after each turn.
-use Prim.Native.Nat.{◌+◌, ◌-◌, ◌≤◌}
 use native.Mathlib.Omega.{arith}
 use borrow.Author.Rules.{rules}
 use Rattle.model.specs.Tree.{entry}
-use Rattle.lend.proofs.Copied.{Joining, joining-none, joining-more, Begun, begins}
+use Rattle.lend.proofs.Copied.{joining-none, joining-more, Begun, begins}
 use Rattle.lend.proofs.pages.append.Goals as goal
 use Rattle.lend.proofs.pages.append.Goals.{After-slice_known-2-1}
 

@@ -1,8 +1,6 @@
 -- `pages::can_pass` meets its contract: each test is one of the four.
 use mathlib.Core.Path.{◌≡◌, sym, ◌∙◌}
 use mathlib.Core.Bool.{true}
-use borrow.Author.Rules.{rules}
-use borrow.Author.Tests.{not-true, not-false}
 use Rattle.model.specs.Basics.{every}
 use Rattle.page.specs.Page.{holds_at}
 use Rattle.lend.specs.Pages.{most, are_apart, can_pass, page_in}

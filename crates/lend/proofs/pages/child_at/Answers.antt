@@ -1,5 +1,4 @@
 -- `pages::child_at` meets its contract: what `page::child_at` says of the page, said of the pool.
-use borrow.Author.Rules.{rules}
 use Rattle.lend.proofs.pages.child_at.Goals as goal
 
 pub returns : goal.returns

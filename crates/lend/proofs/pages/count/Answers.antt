@@ -1,5 +1,4 @@
 -- `pages::count` meets its contract: what `page::count` says of the page, said of the pool.
-use borrow.Author.Rules.{rules}
 use Rattle.lend.proofs.pages.count.Goals as goal
 
 pub returns : goal.returns

@@ -1,5 +1,4 @@
 -- `pages::entry_at` meets its contract: what `page::entry_at` says of the page, said of the pool.
-use borrow.Author.Rules.{rules}
 use Rattle.lend.proofs.pages.entry_at.Goals as goal
 
 pub returns : goal.returns

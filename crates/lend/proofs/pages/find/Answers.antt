@@ -1,5 +1,4 @@
 -- `pages::find` meets its contract: what `page::find` says of the page, said of the pool.
-use borrow.Author.Rules.{rules}
 use Rattle.lend.proofs.pages.find.Goals as goal
 
 pub returns : goal.returns

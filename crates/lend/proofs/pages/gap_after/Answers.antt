@@ -1,5 +1,4 @@
 -- `pages::gap_after` meets its contract: what `page::gap_after` says of the page, said of the pool.
-use borrow.Author.Rules.{rules}
 use Rattle.lend.proofs.pages.gap_after.Goals as goal
 
 pub returns : goal.returns

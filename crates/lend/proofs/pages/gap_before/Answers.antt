@@ -1,5 +1,4 @@
 -- `pages::gap_before` meets its contract: what `page::gap_before` says of the page, said of the pool.
-use borrow.Author.Rules.{rules}
 use Rattle.lend.proofs.pages.gap_before.Goals as goal
 
 pub returns : goal.returns

@@ -1,13 +1,11 @@
 -- `pages::give` meets its contract: page `q` holds the first j of the four after each turn.
 use mathlib.Core.Path.{◌≡◌}
 use mathlib.Core.Bool.{true}
-use Prim.Native.Nat.{◌-◌, ◌≤◌}
 use native.Mathlib.Omega.{arith}
-use borrow.Author.Rules.{rules}
 use Rattle.model.specs.Tree.{entry}
 use Rattle.page.specs.Page.{full_at}
 use Rattle.lend.specs.Pages.{most, Inside, page_in}
-use Rattle.lend.proofs.Copied.{Giving, giving-more, Given, gives}
+use Rattle.lend.proofs.Copied.{giving-more, Given, gives}
 use Rattle.lend.proofs.pages.give.Goals as goal
 use Rattle.lend.proofs.pages.give.Goals.{After-slice_known-2-1, At-loop-j}
 

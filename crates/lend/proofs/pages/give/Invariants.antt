@@ -1,13 +1,7 @@
 -- `pages::give` meets its contract: page `q` holds the first j of the four after each turn.
-use mathlib.Core.Path.{◌≡◌}
-use mathlib.Core.Bool.{true}
 use Prim.Native.Nat.{◌-◌, ◌≤◌}
-use native.Mathlib.Omega.{arith}
-use borrow.Author.Rules.{rules}
 use Rattle.model.specs.Tree.{entry}
-use Rattle.page.specs.Page.{full_at}
-use Rattle.lend.specs.Pages.{most, Inside, page_in}
-use Rattle.lend.proofs.Copied.{Giving, giving-more, Given, gives}
+use Rattle.lend.proofs.Copied.{Giving}
 use Rattle.lend.proofs.pages.give.Given as goal
 
 abbrev pub invariant-loop-j : goal.invariant-loop-j

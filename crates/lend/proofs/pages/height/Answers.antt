@@ -1,5 +1,4 @@
 -- `pages::height` meets its contract: what `page::height` says of the page, said of the pool.
-use borrow.Author.Rules.{rules}
 use Rattle.lend.proofs.pages.height.Goals as goal
 
 pub returns : goal.returns

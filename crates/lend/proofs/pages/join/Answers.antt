@@ -2,8 +2,6 @@
 use mathlib.Core.Path.{◌≡◌, refl, sym, ◌∙◌}
 use mathlib.Core.Bool.{true, false}
 use native.Mathlib.Omega.{arith}
-use borrow.Author.Rules.{rules}
-use borrow.Author.Tests.{not-true, not-false}
 use Rattle.lend.specs.Pages.{can_join}
 use Rattle.lend.proofs.Several.{apart-facts, join-facts, join-none, join-done}
 use Rattle.lend.proofs.pages.join.Goals as goal

@@ -1,6 +1,5 @@
 -- `pages::keep` meets its contract: what `page::split` says of the page, said of the pool.
 use mathlib.Core.Path.{refl}
-use borrow.Author.Rules.{rules}
 use Rattle.model.specs.Tree.{entry}
 use Rattle.page.specs.Node.{wider}
 use Rattle.page.specs.Page.{said, full_at}

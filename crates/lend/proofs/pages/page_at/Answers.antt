@@ -1,7 +1,6 @@
 -- `pages::page_at` meets its contract: the part is the page.
 use mathlib.Core.Path.{ap, ◌∙◌}
 use lib.ListN.{length}
-use borrow.Author.Rules.{rules}
 use Rattle.lend.proofs.Lent.{page-long, lent-page}
 use Rattle.lend.proofs.pages.page_at.Goals as goal
 

@@ -4,7 +4,6 @@ use mathlib.Core.Bool.{true, false}
 use Prim.Native.Nat.{◌≤◌, ◌<◌}
 use native.Mathlib.Omega.{arith}
 use borrow.Author.Rules.{rules}
-use borrow.Author.Tests.{not-true, not-false}
 use Rattle.lend.specs.Pages.{most, can_pass, page_in}
 use Rattle.page.proofs.Pages.{holds-facts}
 use Rattle.lend.proofs.Several.{pass-facts, pass-none, pass-done}

@@ -1,6 +1,5 @@
 -- `pages::put_last` meets its contract: what `page::put_last` says of the page, said of the pool.
 use mathlib.Core.Path.{refl}
-use borrow.Author.Rules.{rules}
 use Rattle.model.specs.Tree.{entry}
 use Rattle.page.specs.Node.{more}
 use Rattle.page.specs.Page.{said, room_at}

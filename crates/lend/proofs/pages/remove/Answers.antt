@@ -1,6 +1,5 @@
 -- `pages::remove` meets its contract: what `page::remove` says of the page, said of the pool.
 use mathlib.Core.Path.{refl}
-use borrow.Author.Rules.{rules}
 use Rattle.page.specs.Node.{less}
 use Rattle.page.specs.Page.{said, holds_at}
 use Rattle.lend.specs.Pages.{most, node_in}

@@ -1,6 +1,5 @@
 -- `pages::set_entry` meets its contract: what `page::set_entry` says of the page, said of the pool.
 use mathlib.Core.Path.{refl}
-use borrow.Author.Rules.{rules}
 use Rattle.model.specs.Tree.{entry}
 use Rattle.page.specs.Node.{instead}
 use Rattle.page.specs.Page.{said, holds_at}

@@ -1,5 +1,4 @@
 -- `pages::single` meets its contract: what `page::single` says of the page, said of the pool.
-use borrow.Author.Rules.{rules}
 use Rattle.model.specs.Tree.{entry}
 use Rattle.model.specs.Standing.{Holds}
 use Rattle.page.specs.Node.{alone}

@@ -2,7 +2,6 @@
 use mathlib.Core.Path.{refl}
 use Prim.Native.Nat.{◌-◌}
 use native.Mathlib.Omega.{arith}
-use borrow.Author.Rules.{rules}
 use Rattle.model.specs.Page.{count_of}
 use Rattle.lend.proofs.Several.{pass-empty, move-none, give-moves}
 use Rattle.lend.specs.Pages.{page_in}

@@ -2,7 +2,6 @@
 use mathlib.Core.Path.{refl}
 use native.Mathlib.Numerals.{add-one}
 use native.Mathlib.Omega.{arith}
-use borrow.Author.Rules.{rules}
 use Rattle.lend.proofs.Several.{pass-over, move-none, get-moves}
 use Rattle.lend.proofs.pages.take_right.Goals as goal
 

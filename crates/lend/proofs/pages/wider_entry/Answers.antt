@@ -1,6 +1,5 @@
 -- `pages::wider_entry` meets its contract: what `page::wider_entry` says of the page, said of the pool.
 use native.Mathlib.Omega.{arith}
-use borrow.Author.Rules.{rules}
 use Rattle.lend.specs.Pages.{most, page_in}
 use Rattle.page.proofs.Pages.{full-facts}
 use Rattle.lend.proofs.Lent.{page-long}

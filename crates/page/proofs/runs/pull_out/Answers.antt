@@ -2,10 +2,10 @@
 -- more, there is what was to be made.
 use mathlib.Core.Path.{◌≡◌, refl, sym, ap, ap₂, ◌∙◌}
 use mathlib.Core.List.{◌++◌}
-use Prim.Native.Nat.{ℕ, ◌<◌, ◌-◌, max}
+use Prim.Native.Nat.{ℕ, ◌-◌, max}
 use native.Mathlib.Omega.{arith}
 use lib.Dec.{leb}
-use lib.ListN.{length, drop, length-set, take-append-drop}
+use lib.ListN.{length, length-set, take-append-drop}
 use lib.Seq.{drop-set-lt}
 use borrow.Author.Rules.{rules}
 use Rattle.model.specs.Basics.{del}

@@ -1,15 +1,9 @@
 -- `page::runs::pull_out` meets its contract. The invariant: without the word at `max at i`, which is not wanted any
 -- more, there is what was to be made.
-use mathlib.Core.Path.{◌≡◌, refl, sym, ap, ap₂, ◌∙◌}
-use mathlib.Core.List.{◌++◌}
-use Prim.Native.Nat.{ℕ, ◌<◌, ◌-◌, max}
-use native.Mathlib.Omega.{arith}
-use lib.Dec.{leb}
-use lib.ListN.{length, drop, length-set, take-append-drop}
-use lib.Seq.{drop-set-lt}
-use borrow.Author.Rules.{rules}
+use mathlib.Core.Path.{◌≡◌}
+use Prim.Native.Nat.{◌<◌, ◌-◌, max}
+use lib.ListN.{length, drop}
 use Rattle.model.specs.Basics.{del}
-use Rattle.page.proofs.Running.{down_turn, del-last, byte-most}
 use Rattle.page.proofs.runs.pull_out.Given as goal
 
 abbrev pub invariant-loop-i : goal.invariant-loop-i

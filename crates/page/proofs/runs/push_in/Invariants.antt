@@ -1,14 +1,9 @@
 -- `page::runs::push_in` meets its contract. The invariant: without the word at `max at i`, which is not wanted any
 -- more, there are the words of before but for the last.
-use mathlib.Core.Path.{◌≡◌, refl, ap, ◌∙◌}
-use mathlib.Core.List.{List}
-use Prim.Native.Nat.{ℕ, ◌<◌, ◌-◌, max}
-use native.Mathlib.Omega.{arith}
-use lib.Dec.{ltb}
-use lib.ListN.{length, take, length-set}
-use borrow.Author.Rules.{rules}
-use Rattle.model.specs.Basics.{ins, del}
-use Rattle.page.proofs.Running.{up_turn, del-last, set-ins, byte-most}
+use mathlib.Core.Path.{◌≡◌}
+use Prim.Native.Nat.{◌<◌, ◌-◌, max}
+use lib.ListN.{length, take}
+use Rattle.model.specs.Basics.{del}
 use Rattle.page.proofs.runs.push_in.Given as goal
 
 abbrev pub invariant-loop-i : goal.invariant-loop-i

@@ -1,5 +1,4 @@
 -- `page::runs::put_at` meets its contract: one store behind the run.
-use borrow.Author.Rules.{rules}
 use Rattle.page.proofs.Parts.{put-behind}
 use Rattle.page.proofs.runs.put_at.Goals as goal
 

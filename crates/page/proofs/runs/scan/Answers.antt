@@ -3,10 +3,10 @@ use mathlib.Core.Path.{◌≡◌}
 use Prim.Native.Nat.{◌-◌, ◌^◌, min}
 use native.Mathlib.Omega.{arith}
 use lib.Count.{count_trailing_zeros, trailing_le}
-use lib.ListN.{length, get_or, take}
+use lib.ListN.{get_or, take}
 use borrow.Author.Rules.{rules}
 use Rattle.page.specs.Runs.{leading, up_to}
-use Rattle.page.proofs.Leading.{Mask, mask-none, mask-on, mask-leading, stands-up-to, leading-take}
+use Rattle.page.proofs.Leading.{mask-none, mask-on, mask-leading, stands-up-to, leading-take}
 use Rattle.page.proofs.runs.scan.Goals as goal
 use Rattle.page.proofs.runs.scan.Goals.{After-loop-i}
 

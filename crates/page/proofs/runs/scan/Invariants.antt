@@ -1,12 +1,8 @@
 -- `page::runs::scan` meets its contract. The invariant: the mask has a bit for each word passed.
-use mathlib.Core.Path.{◌≡◌}
-use Prim.Native.Nat.{◌-◌, ◌^◌, min}
-use native.Mathlib.Omega.{arith}
-use lib.Count.{count_trailing_zeros, trailing_le}
-use lib.ListN.{length, get_or, take}
-use borrow.Author.Rules.{rules}
-use Rattle.page.specs.Runs.{leading, up_to}
-use Rattle.page.proofs.Leading.{Mask, mask-none, mask-on, mask-leading, stands-up-to, leading-take}
+use Prim.Native.Nat.{◌-◌}
+use lib.ListN.{length}
+use Rattle.page.specs.Runs.{up_to}
+use Rattle.page.proofs.Leading.{Mask}
 use Rattle.page.proofs.runs.scan.Given as goal
 
 abbrev pub invariant-loop-i : goal.invariant-loop-i

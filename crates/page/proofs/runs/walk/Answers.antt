@@ -1,12 +1,10 @@
 -- `page::runs::walk` meets its contract. The invariant: the words passed and the place in the rest make the place in all.
-use mathlib.Core.Path.{◌≡◌}
 use mathlib.Core.Bool.{true}
-use Prim.Native.Nat.{◌≤◌, ◌+◌, ◌-◌}
 use native.Mathlib.Omega.{arith}
-use lib.ListN.{length, drop, get_or}
+use lib.ListN.{get_or}
 use borrow.Author.Rules.{rules}
 use borrow.Author.Tests.{le-leb, lt-leb}
-use Rattle.page.specs.Runs.{leading, up_to}
+use Rattle.page.specs.Runs.{up_to}
 use Rattle.page.proofs.Leading.{leading-here, leading-past, leading_end}
 use Rattle.page.proofs.runs.walk.Goals as goal
 

@@ -2,12 +2,8 @@
 use mathlib.Core.Path.{◌≡◌}
 use mathlib.Core.Bool.{true}
 use Prim.Native.Nat.{◌≤◌, ◌+◌, ◌-◌}
-use native.Mathlib.Omega.{arith}
-use lib.ListN.{length, drop, get_or}
-use borrow.Author.Rules.{rules}
-use borrow.Author.Tests.{le-leb, lt-leb}
+use lib.ListN.{length, drop}
 use Rattle.page.specs.Runs.{leading, up_to}
-use Rattle.page.proofs.Leading.{leading-here, leading-past, leading_end}
 use Rattle.page.proofs.runs.walk.Given as goal
 
 abbrev pub invariant-loop-i : goal.invariant-loop-i
