@@ -1,16 +1,12 @@
 -- `check::cursor` meets its contract: each answer by the words that led there.
-use mathlib.Core.Path.{ap, subst}
+use mathlib.Core.Path.{subst}
 use Prim.Native.Nat.{◌-◌}
 use native.Mathlib.Omega.{arith}
-use denote.Enum.Declared.{tag_of}
-use borrow.Author.Rules.{rules}
 use Rattle.model.specs.Head.{root_word, levels_word, key_word}
 use Rattle.tree.specs.declared.search.Got.{Got}
 use Rattle.tree.specs.Search.{GetsBelow}
-use Rattle.model.proofs.Cases.{other_tag}
 use Rattle.lend.proofs.Fitting.{head-long}
 use Rattle.tree.proofs.Checking.{root-there, cursor-start, cursor-closed, cursor-empty, cursor-lost, cursor-found}
-use Rattle.tree.specs.contracts.search.Got.{the_type}
 use Rattle.tree.proofs.check.cursor.Goals as goal
 
 pub bounds-pool-6 : goal.bounds-pool-6
@@ -64,7 +60,7 @@ returns-in_default c =
     let some = c.if-levels-eq0.false in
     let root = root-there w c.requires some in
     cursor-lost w c.requires c.if-pool-eq0.false (levels_word w - 1) (root_word w - 1) (omega arith) root.is
-    c.get_below.result c.get_below.ensures.0 (λ v m e. other_tag (ap (tag_of the_type) e) c.in_default.keys2)
+    c.get_below.result c.get_below.ensures.0 c.in_default.not-Value
 
 pub returns : goal.returns
 returns c =

@@ -1,5 +1,4 @@
 -- `check::fits_kind` meets its contract.
-use borrow.Author.Rules.{rules}
 use borrow.Author.Tests.{eq-eqb, ne_eqb}
 use Rattle.model.specs.Head.{kind_word}
 use Rattle.tree.proofs.check.fits_kind.Goals as goal

@@ -1,7 +1,5 @@
 -- `check::meet` meets its contract: each answer by the tests that led there.
 use mathlib.Core.Path.{sym, ◌∙◌}
-use borrow.Author.Rules.{rules}
-use borrow.Author.Tests.{not-true, not-false}
 use Rattle.tree.proofs.Walking.{meet-past, meet_low, meet-value, meet-fine}
 use Rattle.tree.proofs.check.meet.Goals as goal
 
