@@ -1,0 +1,14 @@
+-- `pool::copy_words` meets its contract: the words before i are the source's.
+use mathlib.Core.Path.{◌≡◌, refl}
+use Prim.Native.Nat.{◌≤◌, ◌-◌}
+use native.Mathlib.Omega.{arith}
+use lib.ListN.{length, take, length-set}
+use borrow.Author.Rules.{rules}
+use Rattle.map.proofs.Making.{laid_one, laid-all}
+use Rattle.map.proofs.pool.copy_words.Given as goal
+
+abbrev pub invariant-loop-i : goal.invariant-loop-i
+invariant-loop-i l = (length l.source ≡ length l.destination) × (l.i ≤ l.n) × (take l.i l.destination ≡ take l.i l.source)
+
+abbrev pub decreases-loop-i : goal.decreases-loop-i
+decreases-loop-i l = l.n - l.i
