@@ -73,15 +73,13 @@ module _ {aim : Aim} {w ps ss ps' ss' : List ℕ} {b : Bool} (sought : Seeks w a
         );
       }
 
--- any gap but the start is sought; in the else of a `let`, only the tag is known
-pub opens-else : (aim : Aim) (levels : ℕ) {w v : List ℕ} {r : Opened} → (tag_of the_type aim ≡ 0) ⊎ ((tag_of the_type aim ≡ 1) ⊎ (tag_of the_type aim ≡ 3)) → Opens aim levels w v r
+-- any gap but the start is sought
+pub opens-else : (aim : Aim) (levels : ℕ) {w v : List ℕ} {r : Opened} → (aim ≡ Start → ⊥) → Opens aim levels w v r
     → Opens aim (aim_read aim levels) w v r
-opens-else (Before k) levels tag opens = opens
-opens-else (After k) levels tag opens = opens
-opens-else Start levels tag opens =
-    ⊎_elim (λ (q : ◌≡◌ {A = ℕ} 2 0). absurd (omega arith))
-    (⊎_elim (λ (q : ◌≡◌ {A = ℕ} 2 1). absurd (omega arith)) (λ (q : ◌≡◌ {A = ℕ} 2 3). absurd (omega arith))) tag
-opens-else End levels tag opens = opens
+opens-else (Before k) levels other opens = opens
+opens-else (After k) levels other opens = opens
+opens-else Start levels other opens = absurd (other refl)
+opens-else End levels other opens = opens
 
 pub opens-start : {aim : Aim} {w v : List ℕ} → aim ≡ Start → v ≡ gap_words 1 0 0 w → Opens aim (aim_read aim (levels_word w)) w v (opened.Read 0)
 opens-start {w = w} start laid =
