@@ -1,42 +1,20 @@
 -- `steps::next` meets its contract. The loop's invariant: what hangs under the pages that are left is at its end.
-use mathlib.Core.Path.{◌≡◌, refl, ap, subst}
-use Prim.Native.Nat.{ℕ, suc, ◌-◌, ◌≤◌, ◌<◌}
+use mathlib.Core.Path.{◌≡◌, refl, subst}
+use Prim.Native.Nat.{◌-◌}
 use native.Mathlib.Omega.{arith}
-use lib.ListN.{length, get_or, drop, length-drop}
-use borrow.Author.Rules.{rules}
+use lib.ListN.{drop}
 use Rattle.model.specs.Entries as model
 use Rattle.model.specs.Entries.{forth}
-use Rattle.lend.specs.Pages.{most}
 use Rattle.tree.specs.declared.steps.Step.{Step}
 use Rattle.tree.specs.declared.steps.Step.TheVariants as step
 use Rattle.tree.specs.Steps.{Forth}
-use Rattle.tree.proofs.Paths.{from_back, path-at, from-drop}
+use Rattle.tree.proofs.Paths.{from_back}
 use Rattle.tree.proofs.Stepping.{forward}
-use Rattle.tree.proofs.Turning.{entry_other, unsound-other, Along, along-start, along-done, along-inside, along-end, along-answer, along-next}
+use Rattle.tree.proofs.Turning.{entry_other, unsound-other, along-start, along-end, along-answer, along-next}
 use Rattle.tree.proofs.steps.next.Goals as goal
-use Rattle.tree.proofs.steps.next.Goals.{After-over, In-loop-i}
+use Rattle.tree.proofs.steps.next.Goals.{After-over}
 
--- ---- a turn of the loop, at page `at` of the path
-
-abbrev at : In-loop-i → ℕ
-at c = c.loop-i.i - 1
-
-under : (c : In-loop-i) → c.loop-i.i ≡ suc (at c)
-under c = let l = c.loop-i-test.true in omega arith
-
-page : (c : In-loop-i) → at c < length c.loop-i.pages
-page c = let a = c.loop-i.invariant in omega (arith, under c, a.within, ap length a.pages)
-
-slot : (c : In-loop-i) → at c < length c.loop-i.slots
-slot c = let a = c.loop-i.invariant in omega (arith, under c, a.within, ap length a.slots, c.requires.path_in.even)
-
-few : (c : In-loop-i) → get_or c.loop-i.slots (at c) 0 ≤ most
-few c =
-    let a = c.loop-i.invariant in
-    rw a.slots (path-at _ c.args.pages.now c.args.slots.now c.requires.path_in (at c) (omega (arith, under c, a.within))).1
-
--- ---- after the step over the page's own entry
-
+-- a turn steps at page `loop-i.i - 1` of the path; this is after the step over that page's own entry
 stepped : (c : After-over) (r : Step) → c.over.result ≡ r → let a = c.args in let i = c.loop-i.i - 1 in
     Forth a.pool.now (drop i a.pages.now) (drop i a.slots.now) c.over.new.pages c.over.new.slots r
 stepped c r e =
@@ -48,7 +26,7 @@ stepped c r e =
     e
     (along-next _ a.pages.now a.slots.now c.requires.path_in c.loop-i.invariant (omega arith) refl c.over.ensures)
 
--- what is answered other than that it is at its end
+-- what is answered there, other than that it is at its end, is the answer for the whole path
 answered : (c : After-over) (r : Step) → (r ≡ step.End → ⊥) → c.over.result ≡ r → let a = c.args in let i = c.loop-i.i - 1 in
     Forth a.pool.now a.pages.now a.slots.now (from_back i c.loop-i.pages c.over.new.pages) (from_back i c.loop-i.slots c.over.new.slots) r
 answered c r n e =
@@ -56,15 +34,14 @@ answered c r n e =
     let l = c.loop-i-test.true in
     along-answer model.next forth forward _ a.pages.now a.slots.now c.requires.path_in c.loop-i.invariant (omega arith) n (stepped c r e)
 
--- ---- the needs
-
 pub loop-i-init : goal.loop-i-init
 loop-i-init c = let a = c.args in along-start model.next forth forward a.pool.now a.pages.now a.slots.now
 
 pub loop-i-preserved : goal.loop-i-preserved
 loop-i-preserved c =
     let a = c.args in
-    along-end model.next forth forward _ a.pages.now a.slots.now c.requires.path_in c.loop-i.invariant (under (goal.at.loop-i-preserved c).In-loop-i)
+    let l = c.loop-i-test.true in
+    along-end model.next forth forward _ a.pages.now a.slots.now c.requires.path_in c.loop-i.invariant (omega arith)
     (stepped (goal.at.loop-i-preserved c).After-over step.End c.in-End.is)
 
 pub returns-in-Entry : goal.returns-in-Entry

@@ -1,25 +1,22 @@
 -- `steps::over` meets its contract: one law for each way out.
 use mathlib.Core.Path.{◌≡◌, sym, ◌∙◌}
 use mathlib.Core.Bool.{true}
-use Prim.Native.Nat.{◌-◌, ◌≤◌}
 use native.Mathlib.Omega.{arith}
-use lib.ListN.{length, get_or, set, length-set}
-use borrow.Author.Rules.{rules}
-use borrow.Author.Tests.{not-true, not-false}
-use borrow.Rule.Slice.PartMut.{same_len_mid}
+use lib.ListN.{get_or, set}
 use Rattle.page.specs.Page.{holds_at}
 use Rattle.lend.specs.Pages.{most, Inside, page_in}
 use Rattle.tree.specs.Steps.{Overs}
 use Rattle.page.proofs.Pages.{holds-facts}
-use Rattle.tree.proofs.Paths.{behind-even, behind_back, path-at}
+use Rattle.tree.proofs.Paths.{behind_back, path-at}
 use Rattle.tree.proofs.Turning.{over_by, over-end, over-on}
 use Rattle.tree.proofs.steps.over.Goals as goal
 use Rattle.tree.proofs.steps.over.Goals.{After-turn, Else-not-holds, Start}
 
--- the first page lies inside; and past the test, what its words say
+-- the path's first page lies inside
 first : (c : Start) → Inside (get_or c.args.pages.now 0 0) c.args.pool.now
 first c = (path-at _ _ c.args.slots.now c.requires.path_in 0 c.requires.today_in_bounds.1).0
 
+-- past the test: it has an entry at s
 here : (c : Else-not-holds) → holds_at most (page_in c.args.pool.now (get_or c.args.pages.now 0 0)) c.args.s 0 ≡ true
 here c = rw c.page_at.ensures.result_value at (sym c.holds.ensures ∙ c.if-not-holds.false)
 
@@ -32,17 +29,7 @@ returns-then-not-holds c =
 pub entry_at-e-requires : goal.entry_at-e-requires
 entry_at-e-requires c = let f = holds-facts most _ c.args.s 0 (here c) in (first (goal.at.entry_at-e-requires c).Start, omega arith)
 
-some-slot : (c : Start) → 1 ≤ length (set c.args.slots.now 0 c.args.slot)
-some-slot c = let e = c.requires.path_in.even in let l = c.requires.today_in_bounds.1 in simp length-set (omega arith)
-
--- the slots that come back, and what is left of the path, by whether the rest of it was found
-even : (c : After-turn) → let a = c.args in
-    length (behind_back (set a.slots.now 0 a.slot) c.turn.new.slots) ≡ length a.slots.now
-even c =
-    let a = c.args in
-    let slots = set a.slots.now 0 a.slot in
-    same_len_mid 1 (length slots - 1) slots c.turn.new.slots c.turn.ensures.slots ∙ length-set a.slots.now 0 a.slot
-
+-- the path that comes back, and the answer, by whether the rest of it was found
 turned : (c : After-turn) → let a = c.args in
     holds_at most (page_in a.pool.now (get_or a.pages.now 0 0)) a.s 0 ≡ true →
     Overs a.pool.now a.s a.slot a.aim a.pages.now a.slots.now (behind_back a.pages.now c.turn.new.pages)
