@@ -4,7 +4,7 @@
 -- Assumes nothing.
 use mathlib.Core.Path.{◌≡◌, refl, sym, ap, ap₂, subst, ◌∙◌}
 use mathlib.Core.Bool.{true}
-use mathlib.Core.Logic.{◌⊎◌, ◌≢◌}
+use mathlib.Core.Logic.{◌≢◌}
 use mathlib.Core.Option.{Option, none, some}
 use mathlib.Core.List.{List}
 use Prim.Native.Nat.{ℕ}
@@ -32,7 +32,7 @@ use Rattle.map.specs.declared.entry.Sought.{Sought}
 use Rattle.map.specs.declared.entry.Sought.TheVariants as sought
 use Rattle.map.specs.Entry.{Finds, SeeksKey}
 use Rattle.cursor.specs.Gap.{rest_words}
-use Rattle.model.proofs.Cases.{contrary, other_tag}
+use Rattle.model.proofs.Cases.{contrary}
 use Rattle.model.proofs.Basics.{next-some}
 use Rattle.model.proofs.Head.{head-facts}
 use Rattle.model.proofs.Entries.{lookup-at}

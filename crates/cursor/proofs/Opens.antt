@@ -3,11 +3,10 @@
 -- Assumes nothing.
 use mathlib.Core.Path.{◌≡◌, refl, sym, ap, subst, ◌∙◌}
 use mathlib.Core.Bool.{Bool, false, cond}
-use mathlib.Core.Logic.{◌≢◌, ◌⊎◌, ⊎_elim}
+use mathlib.Core.Logic.{◌≢◌}
 use mathlib.Core.List.{List}
 use Prim.Native.Nat.{ℕ, zero, suc, ◌≤◌}
 use native.Mathlib.Omega.{arith}
-use denote.Enum.Declared.{tag_of}
 use lib.Dec.{eqb}
 use lib.ListN.{length}
 use borrow.Author.Tests.{eq-eqb, ne_eqb}
@@ -45,7 +44,6 @@ use Rattle.model.proofs.Keeps.{Keeps, of-kind}
 use Rattle.model.proofs.Written.{sound-written}
 use Rattle.model.proofs.Meets.{meets-answered, meets-unsound, reading-first, reading-passed}
 use Rattle.model.proofs.Reading.{pages-told, pages-refused}
-use Rattle.tree.specs.contracts.search.Aim.{the_type}
 use Rattle.tree.proofs.Sitting.{sound-sits}
 use Rattle.map.proofs.Answers.{number-some}
 use Rattle.map.proofs.Calling.{meets-refused}

@@ -1,7 +1,6 @@
 -- `back` meets its contract: the path of the search for the entry that the gap names is the path of the gap before it.
 use mathlib.Core.Path.{sym}
 use native.Mathlib.Omega.{arith}
-use borrow.Author.Rules.{rules}
 use Rattle.lend.proofs.Fitting.{head-long}
 use Rattle.cursor.proofs.Backward.{prev-lost, prev-back}
 use Rattle.cursor.proofs.back.Goals as goal

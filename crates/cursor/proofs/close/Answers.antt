@@ -1,7 +1,6 @@
 -- `close` meets its contract: words 5 to 7 become 0 wherever the head fits.
 use mathlib.Core.Path.{◌≡◌, refl, sym, ap, ◌∙◌}
 use native.Mathlib.Omega.{arith}
-use borrow.Author.Rules.{rules}
 use Rattle.model.specs.Refusal.{refusal}
 use Rattle.model.specs.CursorCalls.{cursor_tests}
 use Rattle.map.specs.Answers.{early_number, number_of}

@@ -1,6 +1,5 @@
 -- `next` meets its contract: the entry ahead is read, and the gap laid behind it.
 use mathlib.Core.Path.{◌≡◌, refl, sym, ap, ◌∙◌}
-use borrow.Author.Rules.{rules}
 use Rattle.model.specs.Refusal.{refusal}
 use Rattle.model.specs.CursorCalls.{cursor_tests, cursor_next}
 use Rattle.map.specs.Answers.{early_number}

@@ -1,6 +1,5 @@
 -- `peek_next` meets its contract: the entry ahead is read.
 use mathlib.Core.Path.{◌≡◌, refl, sym, ap, ◌∙◌}
-use borrow.Author.Rules.{rules}
 use Rattle.model.specs.Refusal.{refusal}
 use Rattle.model.specs.CursorCalls.{cursor_tests, next_of, cursor_peek_next}
 use Rattle.map.specs.Answers.{early_number}

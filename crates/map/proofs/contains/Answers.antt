@@ -1,6 +1,5 @@
 -- `contains` meets its contract: whether `get` finds a value.
 use mathlib.Core.Path.{ap}
-use borrow.Author.Rules.{rules}
 use Rattle.map.specs.Answers.{got_of}
 use Rattle.map.proofs.Calling.{contains-by-get}
 use Rattle.map.proofs.contains.Goals as goal

@@ -1,6 +1,5 @@
 -- `get` meets its contract: the tree's search answers, and an absent key has taken all levels.
 use mathlib.Core.Path.{◌≡◌, refl, sym, ap, ◌∙◌}
-use borrow.Author.Rules.{rules}
 use Rattle.model.specs.Refusal.{refusal, map_kind}
 use Rattle.model.specs.MapCalls.{read_tests, map_get}
 use Rattle.map.specs.Answers.{early_number}

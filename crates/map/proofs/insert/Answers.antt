@@ -1,6 +1,5 @@
 -- `insert` meets its contract: a key that is there has its entry overwritten, another is put in.
 use mathlib.Core.Path.{◌≡◌, refl, sym, ap, ◌∙◌}
-use borrow.Author.Rules.{rules}
 use Rattle.model.specs.Refusal.{refusal, map_kind}
 use Rattle.model.specs.MapCalls.{change_tests, map_insert}
 use Rattle.map.specs.Answers.{early_number}

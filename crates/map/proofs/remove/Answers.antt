@@ -1,6 +1,5 @@
 -- `remove` meets its contract: the entry that has the key goes.
 use mathlib.Core.Path.{◌≡◌, refl, sym, ap, ◌∙◌}
-use borrow.Author.Rules.{rules}
 use Rattle.model.specs.Refusal.{refusal, map_kind}
 use Rattle.model.specs.MapCalls.{change_tests, map_remove}
 use Rattle.map.specs.Answers.{early_number}

@@ -1,6 +1,5 @@
 -- `replace` meets its contract: the entry that has the key is overwritten.
 use mathlib.Core.Path.{◌≡◌, refl, sym, ap, ◌∙◌}
-use borrow.Author.Rules.{rules}
 use Rattle.model.specs.Refusal.{refusal, map_kind}
 use Rattle.model.specs.MapCalls.{change_tests, map_replace}
 use Rattle.map.specs.Answers.{early_number}

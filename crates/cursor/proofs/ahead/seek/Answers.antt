@@ -1,8 +1,6 @@
 -- `ahead::seek`: the search for the gap's aim finds the gap's path, and the spot after it is the one ahead.
 use mathlib.Core.Path.{◌≡◌, sym, ap}
 use mathlib.Core.Bool.{true}
-use borrow.Author.Rules.{rules}
-use borrow.Author.Tests.{not-true, not-false}
 use Rattle.cursor.specs.Ahead.{ahead_of}
 use Rattle.cursor.proofs.Nexts.{seeks-unsound, seeks-spot}
 use Rattle.cursor.proofs.ahead.seek.Goals as goal

@@ -1,9 +1,7 @@
 -- `edit::fits` meets its contract: both neighbours' keys are held to the key.
 use mathlib.Core.Path.{◌≡◌, sym, ap}
 use mathlib.Core.Bool.{true}
-use mathlib.Core.Logic.{⊎_elim}
 use native.Mathlib.Omega.{arith}
-use borrow.Author.Rules.{rules}
 use borrow.Author.Tests.{lt-ltb, le-ltb, eq-eqb, ne_eqb}
 use Rattle.model.specs.Tree.{Entry}
 use Rattle.cursor.specs.Ahead.{above_named}

@@ -1,9 +1,6 @@
 -- `edit::put` meets the call's promise: the gap's path takes the entry in, where its key fits.
 use mathlib.Core.Path.{◌≡◌, refl, sym, ◌∙◌}
 use mathlib.Core.Bool.{true}
-use mathlib.Core.Logic.{⊎_elim}
-use borrow.Author.Rules.{rules}
-use borrow.Author.Tests.{not-true, not-false}
 use Rattle.model.specs.Refusal.{refusal}
 use Rattle.model.specs.CursorCalls.{cursor_tests}
 use Rattle.cursor.specs.Ahead.{fits_at}

@@ -1,6 +1,5 @@
 -- `edit::take` meets the call's promise: the entry after the path's gap goes, and is read before.
 use mathlib.Core.Path.{◌≡◌, refl, sym, ◌∙◌}
-use borrow.Author.Rules.{rules}
 use Rattle.model.specs.Refusal.{refusal}
 use Rattle.model.specs.CursorCalls.{cursor_tests}
 use Rattle.model.proofs.Keeps.{keeps-remove-next}

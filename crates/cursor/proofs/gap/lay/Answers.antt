@@ -1,7 +1,6 @@
 -- `gap::lay` meets its contract: three stores in the head.
 use native.Mathlib.Omega.{arith}
 use lib.ListN.{length-set}
-use borrow.Author.Rules.{rules}
 use Rattle.lend.proofs.Fitting.{head-long}
 use Rattle.cursor.proofs.gap.lay.Goals as goal
 

@@ -1,6 +1,5 @@
 -- `gap::rest` meets its contract: the key laid is that of the entry at the spot.
 use mathlib.Core.Path.{ap, ◌∙◌}
-use borrow.Author.Rules.{rules}
 use Rattle.model.specs.Tree.{Entry}
 use Rattle.cursor.specs.Gap.{gap_words}
 use Rattle.cursor.proofs.gap.rest.Goals as goal

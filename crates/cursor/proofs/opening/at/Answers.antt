@@ -1,5 +1,4 @@
 -- `opening::at` meets its contract: the start is laid as it is, any other gap is sought.
-use borrow.Author.Rules.{rules}
 use Rattle.cursor.proofs.Opens.{opens-else, opens-start}
 use Rattle.cursor.proofs.opening.at.Goals as goal
 

@@ -1,7 +1,6 @@
 -- `opening::by` meets its contract: document 01's first refusal, or the gap of the bound.
 use mathlib.Core.Path.{◌≡◌, sym, ap, ◌∙◌}
 use native.Mathlib.Omega.{arith}
-use borrow.Author.Rules.{rules}
 use Rattle.model.specs.Refusal.{refusal, map_kind}
 use Rattle.model.specs.MapCalls.{read_tests}
 use Rattle.map.specs.Answers.{early_number}

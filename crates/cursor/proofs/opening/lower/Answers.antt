@@ -1,5 +1,4 @@
 -- `opening::lower` meets its contract: the gap of the lower bound is document 01's.
-use borrow.Author.Rules.{rules}
 use Rattle.model.specs.Bound.{bound_of}
 use Rattle.map.specs.Bound.{lower_aim}
 use Rattle.cursor.proofs.Opens.{lower-meets}

@@ -1,7 +1,5 @@
 -- `opening::sought` meets its contract: the gap is laid behind the entry before it, which the path of the search shows.
 use mathlib.Core.Path.{◌∙◌}
-use borrow.Author.Rules.{rules}
-use borrow.Author.Tests.{not-true, not-false}
 use Rattle.cursor.proofs.Opens.{opens-unsound, opens-sought}
 use Rattle.cursor.proofs.opening.sought.Goals as goal
 

@@ -1,5 +1,4 @@
 -- `opening::upper` meets its contract: the gap of the upper bound is document 01's.
-use borrow.Author.Rules.{rules}
 use Rattle.model.specs.Bound.{bound_of}
 use Rattle.map.specs.Bound.{upper_aim}
 use Rattle.cursor.proofs.Opens.{upper-meets}

@@ -1,11 +1,5 @@
 -- `play::run` meets its contract: each turn takes one more entry along, and each way out is where playback is whole.
-use mathlib.Core.Path.{ap}
-use Prim.Native.Nat.{◌-◌}
-use denote.Enum.Declared.{tag_of}
-use borrow.Author.Rules.{rules}
-use Rattle.model.proofs.Cases.{other_tag}
-use Rattle.cursor.specs.contracts.Step.{the_type}
-use Rattle.cursor.proofs.Playing.{Played, played-none, played-more, played-end, played-full}
+use Rattle.cursor.proofs.Playing.{played-none, played-more, played-end, played-full}
 use Rattle.cursor.proofs.play.run.Goals as goal
 
 pub loop-i-init : goal.loop-i-init

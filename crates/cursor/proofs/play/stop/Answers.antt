@@ -1,7 +1,6 @@
 -- `play::stop` meets its contract: step by step.
 use mathlib.Core.Path.{◌≡◌, refl}
 use Prim.Native.Nat.{ℕ}
-use borrow.Author.Rules.{rules}
 use Rattle.map.specs.declared.list.Listed.TheVariants as listed
 use Rattle.map.specs.declared.refusal.Refusal.{Refusal}
 use Rattle.cursor.specs.declared.Step.{Step}

@@ -1,5 +1,4 @@
 -- `bound::before` meets its contract: the key that the gap is named by, where it has one.
-use borrow.Author.Rules.{rules}
 use Rattle.map.proofs.bound.before.Goals as goal
 
 pub returns-in-Before : goal.returns-in-Before

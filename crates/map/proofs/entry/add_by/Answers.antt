@@ -1,6 +1,5 @@
 -- `entry::add_by`: the key's entry stands already, or the gap's path takes it in.
 use mathlib.Core.Path.{◌∙◌}
-use borrow.Author.Rules.{rules}
 use Rattle.map.proofs.Placing.{adds-unsound, adds-here, adds-new, adds-full}
 use Rattle.map.proofs.entry.add_by.Goals as goal
 

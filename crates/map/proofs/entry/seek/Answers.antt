@@ -1,8 +1,6 @@
 -- `entry::seek`: what is read at the spot after the path's gap tells whether the key is there.
 use mathlib.Core.Path.{◌≡◌}
 use mathlib.Core.Bool.{true}
-use borrow.Author.Rules.{rules}
-use borrow.Author.Tests.{not-true, not-false}
 use Rattle.map.proofs.Placing.{seeks-unsound, seeks-end, seeks-here, seeks-other}
 use Rattle.map.proofs.entry.seek.Goals as goal
 use Rattle.map.proofs.entry.seek.Goals.{Else-not-seek}

@@ -1,7 +1,6 @@
 -- `entry::strike_by`: the entry after the path's gap goes where it is the key's, and its value is read before. Assumes
 -- nothing.
 use mathlib.Core.Path.{◌∙◌}
-use borrow.Author.Rules.{rules}
 use Rattle.map.proofs.Placing.{strikes-unsound, strikes-absent, strikes-done, strikes-lost}
 use Rattle.map.proofs.entry.strike_by.Goals as goal
 

@@ -1,8 +1,5 @@
 -- `list::entries` writes the keys and the values of a map between two bounds, as many as the shorter slice takes.
-use mathlib.Core.Logic.{⊎_elim}
 use native.Mathlib.Omega.{arith}
-use borrow.Author.Rules.{rules}
-use borrow.Author.Tests.{ltb-true, ltb-false}
 use Rattle.map.proofs.Spanning.{lists-both}
 use Rattle.map.proofs.list.entries.Goals as goal
 use Rattle.map.proofs.list.entries.Goals.{then-values-most, else-values-most}

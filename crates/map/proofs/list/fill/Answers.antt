@@ -1,6 +1,5 @@
 -- `list::fill` gives document 01's first refusal, or what stands between the two bounds.
 use mathlib.Core.Path.{◌≡◌, sym, subst}
-use borrow.Author.Rules.{rules}
 use Rattle.model.specs.Bound.{bound_of}
 use Rattle.model.specs.Refusal.{refusal}
 use Rattle.model.specs.MapCalls.{read_tests}

@@ -1,12 +1,6 @@
 -- `list::run` meets its contract: each turn takes one more entry along, and each way out is where the list is whole.
-use mathlib.Core.Path.{sym, ap, ◌∙◌}
-use Prim.Native.Nat.{◌-◌}
-use denote.Enum.Declared.{tag_of}
-use borrow.Author.Rules.{rules}
-use borrow.Author.Tests.{not-true, not-false}
-use Rattle.model.proofs.Cases.{other_tag}
-use Rattle.tree.specs.contracts.steps.Step.{the_type}
-use Rattle.map.proofs.Listing.{Ran, ran-none, ran-more, ran-end, ran-behind, ran-full}
+use mathlib.Core.Path.{sym, ◌∙◌}
+use Rattle.map.proofs.Listing.{ran-none, ran-more, ran-end, ran-behind, ran-full}
 use Rattle.map.proofs.list.run.Goals as goal
 
 pub loop-i-init : goal.loop-i-init

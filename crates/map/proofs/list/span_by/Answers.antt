@@ -1,7 +1,5 @@
 -- `list::span_by` writes the entries from the gap of `lower` on: the path sought is the path that is run along.
 use native.Mathlib.Omega.{arith}
-use borrow.Author.Rules.{rules}
-use borrow.Author.Tests.{not-true, not-false}
 use Rattle.lend.proofs.Fitting.{head-long}
 use Rattle.map.proofs.Spanning.{spans-none, spans-run}
 use Rattle.map.proofs.list.span_by.Goals as goal

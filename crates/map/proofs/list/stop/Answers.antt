@@ -1,7 +1,6 @@
 -- `list::stop` meets its contract: step by step.
 use mathlib.Core.Path.{refl}
 use Prim.Native.Nat.{ℕ}
-use borrow.Author.Rules.{rules}
 use Rattle.tree.specs.declared.steps.Step.{Step}
 use Rattle.map.specs.declared.list.Listed.TheVariants as listed
 use Rattle.map.specs.List.{Stops}

@@ -1,7 +1,6 @@
 -- `list::store` meets its contract: past the end of the slice a store changes nothing.
 use mathlib.Core.Path.{sym}
 use lib.Seq.{set_out}
-use borrow.Author.Rules.{rules}
 use Rattle.map.proofs.list.store.Goals as goal
 
 pub returns-else-i-slice : goal.returns-else-i-slice

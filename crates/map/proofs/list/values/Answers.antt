@@ -1,6 +1,5 @@
 -- `list::values` writes the values of a map between two bounds: the keys go into a slice of no length.
 use mathlib.Core.Path.{refl}
-use borrow.Author.Rules.{rules}
 use Rattle.map.proofs.Spanning.{lists-values}
 use Rattle.map.proofs.list.values.Goals as goal
 

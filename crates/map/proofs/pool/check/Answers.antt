@@ -1,5 +1,4 @@
 -- `pool::check` meets its contract: the tree's own check, with the answer by name.
-use borrow.Author.Rules.{rules}
 use Rattle.map.proofs.pool.check.Goals as goal
 
 pub returns-then-check : goal.returns-then-check

@@ -2,13 +2,11 @@
 -- made 0.
 use mathlib.Core.Path.{◌≡◌, refl, sym, ap, ◌∙◌}
 use mathlib.Core.Bool.{true, false}
-use mathlib.Core.Logic.{⊎_elim}
-use Prim.Native.Nat.{◌≤◌}
 use native.Mathlib.Omega.{arith}
 use lib.ListN.{length}
 use borrow.Author.Rules.{rules}
-use borrow.Author.Tests.{not-true, not-false, eq-eqb, ne_eqb}
-use Rattle.model.specs.Layout.{first_word, allowed, today}
+use borrow.Author.Tests.{eq-eqb, ne_eqb}
+use Rattle.model.specs.Layout.{allowed, today}
 use Rattle.model.specs.Head.{headed, geometry_of}
 use Rattle.model.specs.Refusal.{refusal}
 use Rattle.model.specs.PoolCalls.{copy_tests}

@@ -1,8 +1,7 @@
 -- `pool::copy_words` meets its contract: the words before i are the source's.
-use mathlib.Core.Path.{◌≡◌, refl}
-use Prim.Native.Nat.{◌≤◌, ◌-◌}
+use mathlib.Core.Path.{refl}
 use native.Mathlib.Omega.{arith}
-use lib.ListN.{length, take, length-set}
+use lib.ListN.{length-set}
 use borrow.Author.Rules.{rules}
 use Rattle.map.proofs.Making.{laid_one, laid-all}
 use Rattle.map.proofs.pool.copy_words.Goals as goal

@@ -1,10 +1,7 @@
 -- `pool::copy_words` meets its contract: the words before i are the source's.
-use mathlib.Core.Path.{◌≡◌, refl}
+use mathlib.Core.Path.{◌≡◌}
 use Prim.Native.Nat.{◌≤◌, ◌-◌}
-use native.Mathlib.Omega.{arith}
-use lib.ListN.{length, take, length-set}
-use borrow.Author.Rules.{rules}
-use Rattle.map.proofs.Making.{laid_one, laid-all}
+use lib.ListN.{length, take}
 use Rattle.map.proofs.pool.copy_words.Given as goal
 
 abbrev pub invariant-loop-i : goal.invariant-loop-i

@@ -2,8 +2,6 @@
 use mathlib.Core.Path.{◌≡◌, refl, sym, ◌∙◌}
 use mathlib.Core.Bool.{true, false}
 use native.Mathlib.Omega.{arith}
-use borrow.Author.Rules.{rules}
-use borrow.Author.Tests.{not-true, not-false}
 use Rattle.model.specs.Head.{headed}
 use Rattle.model.proofs.Making.{exact-stopped, exact-done}
 use Rattle.lend.proofs.Fitting.{head-long}

@@ -4,8 +4,7 @@ use mathlib.Core.Bool.{true, false}
 use Prim.Native.Nat.{◌<◌}
 use native.Mathlib.Omega.{arith}
 use lib.ListN.{length}
-use borrow.Author.Rules.{rules}
-use borrow.Author.Tests.{not-true, not-false, le-leb, lt-leb}
+use borrow.Author.Tests.{le-leb, lt-leb}
 use Rattle.model.specs.Layout.{allowed, today}
 use Rattle.model.proofs.Making.{exact-stopped, exact-done}
 use Rattle.map.proofs.pool.make.Goals as goal

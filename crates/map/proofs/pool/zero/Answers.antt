@@ -1,8 +1,7 @@
 -- `pool::zero` meets its contract: the words before i are 0.
-use mathlib.Core.Path.{◌≡◌, refl, sym, ◌∙◌}
-use Prim.Native.Nat.{◌≤◌, ◌-◌}
+use mathlib.Core.Path.{refl, sym, ◌∙◌}
 use native.Mathlib.Omega.{arith}
-use lib.ListN.{length, take, length-set}
+use lib.ListN.{length, length-set}
 use borrow.Author.Rules.{rules}
 use Rattle.model.proofs.Basics.{length-tab}
 use Rattle.model.specs.Basics.{zeros}

@@ -1,7 +1,6 @@
 -- `set::contains` meets its contract: the tree's search answers, and an absent key has taken all levels. Assumes
 -- nothing.
 use mathlib.Core.Path.{◌≡◌, refl, sym, ap, ◌∙◌}
-use borrow.Author.Rules.{rules}
 use Rattle.model.specs.Refusal.{refusal, set_kind}
 use Rattle.model.specs.MapCalls.{read_tests}
 use Rattle.model.specs.SetCalls.{set_contains}

@@ -1,6 +1,5 @@
 -- `set::get` meets its contract: the key itself, where `contains` says that it is there.
 use mathlib.Core.Path.{ap}
-use borrow.Author.Rules.{rules}
 use Rattle.map.specs.Answers.{contained_of}
 use Rattle.map.proofs.Calling.{set-get-by-contains}
 use Rattle.map.proofs.set.get.Goals as goal

@@ -1,7 +1,6 @@
 -- `set::insert` meets its contract: a key that is there stays as it is, another is put in with the value 0. Assumes
 -- nothing.
 use mathlib.Core.Path.{◌≡◌, refl, sym, ap, ◌∙◌}
-use borrow.Author.Rules.{rules}
 use Rattle.model.specs.Refusal.{refusal, set_kind}
 use Rattle.model.specs.MapCalls.{change_tests}
 use Rattle.model.specs.SetCalls.{set_insert}

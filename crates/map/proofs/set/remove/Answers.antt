@@ -1,6 +1,5 @@
 -- `set::remove` meets its contract: the entry that has the key goes.
 use mathlib.Core.Path.{◌≡◌, refl, sym, ap, ◌∙◌}
-use borrow.Author.Rules.{rules}
 use Rattle.model.specs.Refusal.{refusal, set_kind}
 use Rattle.model.specs.MapCalls.{change_tests}
 use Rattle.model.specs.SetCalls.{set_remove}

@@ -1,6 +1,5 @@
 -- `give::answer` meets its contract, an answer at a time.
 use mathlib.Core.Path.{refl, ap}
-use borrow.Author.Rules.{rules}
 use Rattle.map.specs.Answers.{answer_of}
 use Rattle.moorpontoon.proofs.give.answer.Goals as goal
 

@@ -1,6 +1,5 @@
 -- `give::checked` meets its contract, an answer at a time.
 use mathlib.Core.Path.{ap}
-use borrow.Author.Rules.{rules}
 use Rattle.map.specs.Answers.{checked_of}
 use Rattle.moorpontoon.proofs.give.checked.Goals as goal
 

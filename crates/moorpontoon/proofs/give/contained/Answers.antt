@@ -1,6 +1,5 @@
 -- `give::contained` meets its contract, an answer at a time.
 use mathlib.Core.Path.{refl, ap}
-use borrow.Author.Rules.{rules}
 use Rattle.map.specs.Answers.{contained_of}
 use Rattle.moorpontoon.proofs.give.contained.Goals as goal
 

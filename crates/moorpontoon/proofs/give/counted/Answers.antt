@@ -1,6 +1,5 @@
 -- `give::counted` meets its contract, an answer at a time.
 use mathlib.Core.Path.{refl, ap}
-use borrow.Author.Rules.{rules}
 use Rattle.map.specs.Answers.{counted_of}
 use Rattle.moorpontoon.proofs.give.counted.Goals as goal
 

@@ -1,6 +1,5 @@
 -- `give::empty` meets its contract, an answer at a time.
 use mathlib.Core.Path.{refl, ap}
-use borrow.Author.Rules.{rules}
 use Rattle.map.specs.Answers.{empty_of}
 use Rattle.moorpontoon.proofs.give.empty.Goals as goal
 

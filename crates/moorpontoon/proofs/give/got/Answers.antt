@@ -1,6 +1,5 @@
 -- `give::got` meets its contract, an answer at a time.
 use mathlib.Core.Path.{refl, ap}
-use borrow.Author.Rules.{rules}
 use Rattle.map.specs.Answers.{got_of}
 use Rattle.moorpontoon.proofs.give.got.Goals as goal
 

@@ -1,6 +1,5 @@
 -- `give::inserted` meets its contract, an answer at a time.
 use mathlib.Core.Path.{refl, ap}
-use borrow.Author.Rules.{rules}
 use Rattle.map.specs.Answers.{inserted_of}
 use Rattle.moorpontoon.proofs.give.inserted.Goals as goal
 

@@ -1,6 +1,5 @@
 -- `give::listed` meets its contract, an answer at a time.
 use mathlib.Core.Path.{refl, ap}
-use borrow.Author.Rules.{rules}
 use Rattle.map.specs.Answers.{listed_of}
 use Rattle.moorpontoon.proofs.give.listed.Goals as goal
 

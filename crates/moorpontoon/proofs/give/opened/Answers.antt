@@ -1,6 +1,5 @@
 -- `give::opened` meets its contract, an answer at a time.
 use mathlib.Core.Path.{refl, ap}
-use borrow.Author.Rules.{rules}
 use Rattle.cursor.specs.Answers.{opened_of}
 use Rattle.moorpontoon.proofs.give.opened.Goals as goal
 

@@ -1,6 +1,5 @@
 -- `give::put_one` meets its contract.
 use mathlib.Core.Path.{refl}
-use borrow.Author.Rules.{rules}
 use Rattle.moorpontoon.proofs.Exporting.{one-put}
 use Rattle.moorpontoon.proofs.give.put_one.Goals as goal
 

@@ -2,7 +2,6 @@
 use mathlib.Core.Path.{refl}
 use native.Mathlib.Omega.{arith}
 use lib.ListN.{length-set}
-use borrow.Author.Rules.{rules}
 use Rattle.moorpontoon.proofs.Exporting.{two-put}
 use Rattle.moorpontoon.proofs.give.put_two.Goals as goal
 

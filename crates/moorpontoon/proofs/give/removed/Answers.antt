@@ -1,6 +1,5 @@
 -- `give::removed` meets its contract, an answer at a time.
 use mathlib.Core.Path.{refl, ap}
-use borrow.Author.Rules.{rules}
 use Rattle.map.specs.Answers.{removed_of}
 use Rattle.moorpontoon.proofs.give.removed.Goals as goal
 

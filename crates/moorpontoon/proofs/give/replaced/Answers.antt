@@ -1,6 +1,5 @@
 -- `give::replaced` meets its contract, an answer at a time.
 use mathlib.Core.Path.{refl, ap}
-use borrow.Author.Rules.{rules}
 use Rattle.map.specs.Answers.{replaced_of}
 use Rattle.moorpontoon.proofs.give.replaced.Goals as goal
 

@@ -1,6 +1,5 @@
 -- `give::set_got` meets its contract, an answer at a time.
 use mathlib.Core.Path.{refl, ap}
-use borrow.Author.Rules.{rules}
 use Rattle.map.specs.Answers.{set_got_of}
 use Rattle.moorpontoon.proofs.give.set_got.Goals as goal
 

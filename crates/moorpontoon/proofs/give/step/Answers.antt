@@ -1,6 +1,5 @@
 -- `give::step` meets its contract, an answer at a time.
 use mathlib.Core.Path.{refl, ap}
-use borrow.Author.Rules.{rules}
 use Rattle.cursor.specs.Answers.{step_of}
 use Rattle.moorpontoon.proofs.give.step.Goals as goal
 

@@ -1,6 +1,5 @@
 -- `give::wrote` meets its contract, an answer at a time.
 use mathlib.Core.Path.{refl, ap}
-use borrow.Author.Rules.{rules}
 use Rattle.cursor.specs.Answers.{wrote_of}
 use Rattle.moorpontoon.proofs.give.wrote.Goals as goal
 
