@@ -1,7 +1,7 @@
 #!/usr/bin/env python3
 """Bytes of stack that each exported function of libmoorpontoon.a takes, its own return address included.
 
-    bench/stack.py target/staticlib/libmoorpontoon.a
+    bench/stack.py crates/moorpontoon/out/libmoorpontoon.a
 
 Reads the machine code (objdump): a function's own bytes are its pushes and what it takes from the stack pointer, and
 to them comes the deepest of the functions that it calls, with 8 bytes for the return address. A function that calls

@@ -1,6 +1,6 @@
 /* A first program in C: frames filed by clock tick, one looked up, a walk with the cursor, a refusal in words.
- *     rt staticlib moorpontoon
- *     cc -std=c99 -Iinclude examples/first.c target/staticlib/libmoorpontoon.a -o first && ./first */
+ *     (cd crates/moorpontoon && rt lib)
+ *     cc -std=c99 -Iinclude examples/first.c crates/moorpontoon/out/libmoorpontoon.a -o first && ./first */
 #include "moorpontoon.h"
 
 #include <inttypes.h>

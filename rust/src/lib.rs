@@ -49,7 +49,7 @@
 //! # Linking
 //!
 //! Set `MOORPONTOON_LIB` to the path of the archive `libmoorpontoon.a`, absolute or from this crate's folder. Without it the
-//! build runs `rt staticlib moorpontoon` in the repository, which proves the library and makes the archive for x86-64 Linux.
+//! build runs `rt lib` in crates/moorpontoon in the repository, which proves the library and makes the archive for x86-64 Linux.
 //! This crate needs `core` alone.
 //!
 //! [`BTreeMap`]: https://doc.rust-lang.org/std/collections/struct.BTreeMap.html
