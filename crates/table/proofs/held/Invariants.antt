@@ -1,0 +1,6 @@
+-- `held` ends: fewer places are left at each turn.
+use Rattle.std.proofs.Common.{◌-◌}
+use Rattle.table.proofs.held.Given as goal
+
+abbrev pub decreases-loop-i : goal.decreases-loop-i
+decreases-loop-i l = l.last - l.i
