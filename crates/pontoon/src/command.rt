@@ -202,7 +202,7 @@ fn is_read(line: &[u8], words: usize, numbers: usize, i: usize) -> bool {
     if words <= i {
         return true;
     }
-    if std::num::wrapping_add_usize(numbers, 2) <= i {
+    if numbers.wrapping_add(2) <= i {
         return true;
     }
     is_number(line, i)

@@ -38,7 +38,7 @@ fn number(k: usize, a: u64, b: u64, c: u64) -> u64 {
 // What a mark stands for, after `k` numbers; how many there are then.
 fn fill(out: i32, mark: u8, k: usize, a: u64, b: u64, c: u64) -> usize {
     if mark == b'#' {
-        let next = std::num::wrapping_add_usize(k, 1);
+        let next = k.wrapping_add(1);
         io::print_decimal(out, number(next, a, b, c));
         return next;
     }

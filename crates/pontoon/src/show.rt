@@ -31,7 +31,7 @@ fn some(text: &[u8], n: usize) {
 // Nine slots, of which the first `n` are filled.
 fn bar(n: usize) {
     some(b"#########", n);
-    some(b"---------", std::num::wrapping_sub_usize(MOST, n));
+    some(b"---------", MOST.wrapping_sub(n));
 }
 
 // What a page is shown by: its number, a bar, and its first and last tick.
@@ -65,7 +65,7 @@ fn line(pool: &[u64], p: usize, h: usize, root: usize) -> usize
     if MOST < n {
         return 0;
     }
-    let deep = std::num::wrapping_sub_usize(root, h);
+    let deep = root.wrapping_sub(h);
     if deep <= 5 {
         some(b"          ", 2 * deep);
     }
@@ -136,7 +136,7 @@ fn free(pool: &[u64], taken: usize)
     requires { Sized pool.now }
 {
     let all = bits::pages_in(pool);
-    let left = std::num::wrapping_sub_usize(all, taken) as u64;
+    let left = all.wrapping_sub(taken) as u64;
     match pagemap::lowest_free(&pool[HEAD_WORDS..FIRST_PAGE], all) {
         Lowest::Page(p) => say(b"free pages: #, the lowest is page #\n", left, p as u64, 0),
         Lowest::None => write(b"free pages: none\n"),

@@ -33,7 +33,7 @@ fn word_at(bytes: &[u8], at: usize) -> u64 {
     let mut k: usize = 8;
     while 0 < k {
         k -= 1;
-        word = word << 8 | wide(byte(bytes, std::num::wrapping_add_usize(at, k)));
+        word = word << 8 | wide(byte(bytes, at.wrapping_add(k)));
     }
     word
 }
@@ -89,7 +89,7 @@ fn read_all(fd: i32, words: &mut [u64]) -> usize {
     while at < words.len() {
         let n = read_some(fd, &mut words[at..]);
         if n < 8 * SOME {
-            return std::num::wrapping_add_usize(8 * at, n);
+            return (8 * at).wrapping_add(n);
         }
         at += SOME;
     }
@@ -140,7 +140,7 @@ fn append(name: &mut [u8], at: usize, text: &[u8]) -> usize {
     let mut i: usize = 0;
     while i < text.len() {
         put(name, to, text[i]);
-        to = std::num::wrapping_add_usize(to, 1);
+        to = to.wrapping_add(1);
         i += 1;
     }
     to

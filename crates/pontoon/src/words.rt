@@ -51,7 +51,7 @@ fn add(line: &mut [u8], at: usize, i: usize) -> usize {
     if os::errno() != 0 {
         return at;
     }
-    std::num::wrapping_add_usize(from, n)
+    from.wrapping_add(n)
 }
 
 // All arguments but the program's own name.
@@ -78,7 +78,7 @@ pub fn count(line: &[u8]) -> usize {
     let mut i: usize = 0;
     while i < line.len() {
         if line[i] == byte(line, 0) {
-            n = std::num::wrapping_add_usize(n, 1);
+            n = n.wrapping_add(1);
         }
         i += 1;
     }

@@ -27,7 +27,7 @@ pub fn past(text: &[u8], at: usize, n: u64) -> usize {
     if byte(text, at) != b' ' {
         return NOWHERE;
     }
-    let word = std::num::wrapping_add_usize(at, 1);
+    let word = at.wrapping_add(1);
     let Word::Number(m) = number(text, word) else {
         return NOWHERE;
     };
@@ -44,7 +44,7 @@ pub fn ended(text: &[u8], at: usize) -> bool {
 
 // Whether the last word of the line is this one.
 fn last(text: &[u8], at: usize, word: &[u8]) -> bool {
-    let next = std::num::wrapping_add_usize(at, 1);
+    let next = at.wrapping_add(1);
     if !same(text, next, word, 0) {
         return false;
     }

@@ -29,7 +29,7 @@ pub fn same(text: &[u8], at: usize, other: &[u8], from: usize) -> bool {
             return false;
         }
         i += 1;
-        j = std::num::wrapping_add_usize(j, 1);
+        j = j.wrapping_add(1);
     }
     ends(byte(other, j))
 }
@@ -67,7 +67,7 @@ pub fn which(text: &[u8], at: usize, names: &[u8]) -> u64 {
         if names.len() <= space {
             return NONE;
         }
-        n = std::num::wrapping_add_u64(n, 1);
+        n = n.wrapping_add(1);
         i = space + 1;
     }
     NONE
