@@ -2,6 +2,8 @@
 // Lines of a text are its words likewise, where it begins with a line's end. And numbers by their figures.
 ghost use Rattle.std.specs.Prelude.{◌≤◌, length};
 
+use std::env::{Env, FillError};
+
 // Bytes of the longest line: two names of files and some numbers.
 pub const LINE: usize = 12288;
 
@@ -40,27 +42,37 @@ pub fn put(bytes: &mut [u8], i: usize, byte: u8) {
 
 // ---- a line from the program's arguments
 
+// How many arguments there are, the program's own name among them.
+fn arg_count(rt: &impl Env) -> usize {
+    let mut first = [0u8; 1];
+    for i in 0..usize::MAX {
+        if let Err(FillError::NotPresent) = rt.arg(i, &mut first) {
+            return i;
+        }
+    }
+    usize::MAX
+}
+
 // Argument `i` at a place of the line, and where the next one goes; the same place where there is no room for it.
-fn add(line: &mut [u8], at: usize, i: usize) -> usize {
+fn add(rt: &impl Env, line: &mut [u8], at: usize, i: usize) -> usize {
     if line.len() <= at {
         return at;
     }
     put(line, at, 0);
     let from = at + 1;
-    let n = os::arg(i, &mut line[from..]);
-    if os::errno() != 0 {
-        return at;
+    match rt.arg(i, &mut line[from..]) {
+        Ok(n) => from.wrapping_add(n),
+        Err(_) => at,
     }
-    from.wrapping_add(n)
 }
 
 // All arguments but the program's own name.
-pub fn gather(line: &mut [u8]) -> Gathered {
-    let count = os::arg_count();
+pub fn gather(rt: &impl Env, line: &mut [u8]) -> Gathered {
+    let count = arg_count(rt);
     let mut at: usize = 0;
     let mut i: usize = 1;
     while i < count {
-        let next = add(line, at, i);
+        let next = add(rt, line, at, i);
         if next == at {
             return Gathered::TooLong;
         }

@@ -1,0 +1,6 @@
+-- `steps` ends: fewer steps are left at each turn.
+use Rattle.std.proofs.Common.{◌-◌}
+use Rattle.pontoon.proofs.look.steps.Given as goal
+
+abbrev pub decreases-loop-i : goal.decreases-loop-i
+decreases-loop-i g l = l.most - l.i

@@ -1,0 +1,6 @@
+-- `replay` ends: fewer bytes of the text are left at each turn.
+use Rattle.std.proofs.Common.{◌-◌, length}
+use Rattle.replay.proofs.replay.Given as goal
+
+abbrev pub decreases-loop-at : goal.decreases-loop-at
+decreases-loop-at g l = length l.text - l.at

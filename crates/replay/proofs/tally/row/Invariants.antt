@@ -1,0 +1,6 @@
+-- `row` ends: fewer figures are left at each turn.
+use Rattle.std.proofs.Common.{◌-◌}
+use Rattle.replay.proofs.tally.row.Given as goal
+
+abbrev pub decreases-loop-r : goal.decreases-loop-r
+decreases-loop-r l = 100 - l.r

@@ -1,0 +1,6 @@
+-- `write_rows` ends: fewer figures are left at each turn.
+use Rattle.std.proofs.Common.{◌-◌}
+use Rattle.replay.proofs.tally.write_rows.Given as goal
+
+abbrev pub decreases-loop-r : goal.decreases-loop-r
+decreases-loop-r g l = 100 - l.r

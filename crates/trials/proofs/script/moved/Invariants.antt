@@ -1,0 +1,6 @@
+-- `moved` ends: fewer words are left at each turn.
+use Rattle.std.proofs.Common.{◌-◌}
+use Rattle.trials.proofs.script.moved.Given as goal
+
+abbrev pub decreases-loop-i : goal.decreases-loop-i
+decreases-loop-i l = 192 - l.i
