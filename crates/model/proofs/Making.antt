@@ -7,7 +7,7 @@ use mathlib.Core.List.{List, ◌++◌}
 use Prim.Native.Nat.{ℕ, zero, suc, ◌-◌, ◌+◌, ◌%◌, ◌≤◌, ◌<◌}
 use native.Mathlib.Omega.{arith}
 use lib.Dec.{leb}
-use lib.ListN.{length, take, drop, get_or, length-append, length-drop, get_or-append}
+use lib.ListN.{length, drop, get_or, length-append, length-drop, get_or-append}
 use lib.Seq.{get_or-drop, take_at}
 use borrow.Author.Tests.{not-false, leb-false}
 use Rattle.model.specs.declared.Geometry.{Geometry}

@@ -5,7 +5,6 @@ use native.Mathlib.Omega.{arith}
 use lib.Bits.{bit_and}
 use lib.ListN.{set}
 use lib.Seq.{set_out}
-use borrow.Author.Rules.{rules}
 use Rattle.model.specs.Layout.{word}
 use Rattle.pagemap.specs.Bits.{clear_bit}
 use Rattle.model.proofs.Word.{shl_one}

@@ -1,10 +1,9 @@
 -- `pagemap::has_free` meets its contract. The loop's invariant: of the pages passed, so many as counted are free and
 -- the others' bits are 1.
 use mathlib.Core.Path.{◌≡◌, sym, ap}
-use Prim.Native.Nat.{◌+◌, ◌-◌, ◌*◌, ◌≤◌, min}
+use Prim.Native.Nat.{◌*◌, min}
 use native.Mathlib.Omega.{arith}
 use lib.Dec.{leb}
-use lib.ListN.{length}
 use borrow.Author.Tests.{le-leb}
 use Rattle.model.specs.Sums.{sum_to}
 use Rattle.model.specs.PageMap.{bit_at}

@@ -2,7 +2,6 @@
 use mathlib.Core.Path.{refl}
 use Prim.Native.Nat.{◌%◌}
 use lib.ListN.{get_or-eq_default}
-use borrow.Author.Rules.{rules}
 use Rattle.model.specs.PageMap.{bit, bit_at}
 use Rattle.model.proofs.PageMap.{bit-zero}
 use Rattle.pagemap.proofs.is_taken.Goals as goal

@@ -1,9 +1,9 @@
 -- `pagemap::lowest_free` meets its contract. The loop's invariant: every bit of the words passed is 1.
 use mathlib.Core.Path.{◌≡◌, sym}
-use Prim.Native.Nat.{ℕ, ◌+◌, ◌-◌, ◌*◌, ◌^◌, ◌≤◌, ◌<◌}
+use Prim.Native.Nat.{ℕ, ◌+◌, ◌-◌, ◌*◌, ◌^◌, ◌<◌}
 use native.Mathlib.Omega.{arith}
 use lib.Count.{count_trailing_zeros, trailing_le}
-use lib.ListN.{length, get_or}
+use lib.ListN.{get_or}
 use Rattle.model.specs.PageMap.{bit_at}
 use Rattle.pagemap.proofs.Map.{full-to, free-there}
 use Rattle.pagemap.proofs.Taking.{lowest-page, lowest-none}

@@ -1,12 +1,8 @@
 -- `pagemap::lowest_free` meets its contract. The loop's invariant: every bit of the words passed is 1.
-use mathlib.Core.Path.{◌≡◌, sym}
-use Prim.Native.Nat.{ℕ, ◌+◌, ◌-◌, ◌*◌, ◌^◌, ◌≤◌, ◌<◌}
-use native.Mathlib.Omega.{arith}
-use lib.Count.{count_trailing_zeros, trailing_le}
-use lib.ListN.{length, get_or}
+use mathlib.Core.Path.{◌≡◌}
+use Prim.Native.Nat.{ℕ, ◌-◌, ◌*◌, ◌≤◌, ◌<◌}
+use lib.ListN.{length}
 use Rattle.model.specs.PageMap.{bit_at}
-use Rattle.pagemap.proofs.Map.{full-to, free-there}
-use Rattle.pagemap.proofs.Taking.{lowest-page, lowest-none}
 use Rattle.pagemap.proofs.lowest_free.Given as goal
 
 abbrev pub invariant-loop-w : goal.invariant-loop-w

@@ -1,6 +1,5 @@
 -- `pagemap::take_lowest` meets its contract: what `lowest_free` finds is taken by `take`.
 use mathlib.Core.Path.{refl, sym, ◌∙◌}
-use borrow.Author.Rules.{rules}
 use Rattle.pagemap.proofs.take_lowest.Goals as goal
 
 pub returns-in-Page : goal.returns-in-Page

@@ -1,14 +1,9 @@
 -- `pagemap::taken` meets its contract. The loop's invariant: the count is the sum of the bits of the words passed.
 use mathlib.Core.Path.{◌≡◌}
-use Prim.Native.Nat.{ℕ, ◌-◌, ◌*◌, ◌^◌, ◌≤◌, ◌<◌}
-use native.Mathlib.Omega.{arith}
-use lib.Count.{ones, ones-le}
-use lib.ListN.{length, get_or}
+use Prim.Native.Nat.{◌-◌, ◌*◌, ◌≤◌}
+use lib.ListN.{length}
 use Rattle.model.specs.Sums.{sum_to}
 use Rattle.model.specs.PageMap.{bit_at}
-use Rattle.model.proofs.Sums.{sum_to-le}
-use Rattle.pagemap.proofs.Map.{bit_at-le, sum-word}
-use Rattle.pagemap.specs.Bits.{count_bits}
 use Rattle.pagemap.proofs.taken.Given as goal
 
 abbrev pub invariant-loop-w : goal.invariant-loop-w

@@ -5,7 +5,6 @@ use native.Mathlib.Omega.{arith}
 use lib.Bits.{bit_and}
 use lib.Count.{ones, ones-le}
 use lib.Pow.{pow_pos}
-use borrow.Author.Rules.{rules}
 use Rattle.model.specs.Sums.{sum_to}
 use Rattle.model.specs.PageMap.{bit}
 use Rattle.model.proofs.Sums.{sum_to-le}

@@ -1,0 +1,21 @@
+-- `remove::count_below` meets its contract: the child is found, or not.
+use mathlib.Core.Path.{sym, ◌∙◌}
+use native.Mathlib.Omega.{arith}
+use borrow.Author.Rules.{rules}
+use Rattle.tree.proofs.Searching.{below-inside}
+use Rattle.tree.proofs.Planning.{count-found, count-lost}
+use Rattle.tree.proofs.remove.count_below.Goals as goal
+
+pub count-requires : goal.count-requires
+count-requires c =
+    omega (arith, (below-inside _ _ _ _ (sym c.child.ensures ∙ c.in-Page.is)).1)
+
+pub returns-in-Page : goal.returns-in-Page
+returns-in-Page c =
+    let a = c.args in
+    c.count.ensures ∙ sym (count-found a.pool.now a.u a.at _ (sym c.child.ensures ∙ c.in-Page.is))
+
+pub returns-in-Unsound : goal.returns-in-Unsound
+returns-in-Unsound c =
+    let a = c.args in
+    sym (count-lost a.pool.now a.u a.at (sym c.child.ensures ∙ c.in-Unsound.is))

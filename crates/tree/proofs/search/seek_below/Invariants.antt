@@ -1,0 +1,18 @@
+-- `search::seek_below` meets its contract. The loop keeps what is left to do: the path from the page at hand, put behind what is recorded, is the whole path.
+use mathlib.Core.Path.{◌≡◌, refl, sym, ◌∙◌}
+use Prim.Native.Nat.{◌-◌, ◌<◌}
+use native.Mathlib.Omega.{arith}
+use lib.ListN.{length, length-set}
+use borrow.Author.Rules.{rules}
+use Rattle.lend.specs.Pages.{Inside}
+use Rattle.lend.proofs.Lent.{page-inside}
+use Rattle.tree.proofs.Searching.{below-inside}
+use Rattle.tree.proofs.Seeking.{Rest, rest-unsound, rest_end, rest-lost, rest-down}
+use Rattle.tree.proofs.search.seek_below.Given as goal
+
+abbrev pub invariant-loop-slot : goal.invariant-loop-slot
+invariant-loop-slot l =
+    Inside l.at l.pool × (l.i < length l.pages) × (length l.pages ≡ length l.initial.pages) × (length l.slots ≡ length l.initial.slots) × Rest l.pool l.p l.aim l.initial.pages l.initial.slots l.at l.i l.pages l.slots
+
+abbrev pub decreases-loop-slot : goal.decreases-loop-slot
+decreases-loop-slot l = length l.initial.pages - l.i
