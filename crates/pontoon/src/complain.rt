@@ -1,5 +1,6 @@
-// What cannot be carried out, on standard error: words that are no command, and files that are no pool. Nothing is then
-// written to standard output. A complaint that standard error does not take is lost, for there is nowhere left to say so.
+// What cannot be carried out, on standard error: words that are no command, and files that are no pool. Nothing is
+// then written to standard output. A complaint that standard error does not take is lost, for there is nowhere left
+// to say so.
 use crate::command::NOT_KNOWN;
 use crate::usage;
 use crate::words::{find, word};

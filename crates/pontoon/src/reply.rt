@@ -1,4 +1,5 @@
-// What a command comes to: a line of the book, with its numbers. The lines are in order: nothing, the refusals by document 01's numbers, what changes the pool, what does not.
+// What a command comes to: a line of the book, with its numbers. The lines are in order: nothing, the refusals by
+// document 01's numbers, what changes the pool, what does not.
 use crate::say::{say, write};
 use crate::words::word;
 use map::refusal::Refusal;

@@ -1,4 +1,5 @@
-// A command on a pool in memory: the same for a pool that a file keeps and for the sample's. What takes a map and a set goes by the pool's kind. A refused call has changed no word.
+// A command on a pool in memory: the same for a pool that a file keeps and for the sample's. What takes a map and a
+// set goes by the pool's kind. A refused call has changed no word.
 use crate::command::Command;
 use crate::look::{PAGES, is_set};
 use crate::reply::{Reply, plain};

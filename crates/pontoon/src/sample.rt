@@ -1,4 +1,5 @@
-// The sample: the same commands on pools in memory, as they would be typed, and what each says. A burst of 24 frames in a pool of six pages, and a pool of one page that is soon full.
+// The sample: the same commands on pools in memory, as they would be typed, and what each says. A burst of 24 frames
+// in a pool of six pages, and a pool of one page that is soon full.
 use crate::command::parse;
 use crate::reply;
 use crate::reply::{Reply, tell};
@@ -13,7 +14,8 @@ const SAMPLE: usize = FIRST_PAGE + 6 * PAGE_WORDS;
 
 const TINY: usize = FIRST_PAGE + PAGE_WORDS;
 
-// The commands. After a dot stands one that is not shown: it has to say that its tick is new. A line in brackets is a remark.
+// The commands. After a dot stands one that is not shown: it has to say that its tick is new. A line in brackets is a
+// remark.
 const SCRIPT: [u8; 1237] = *b"
  make sample 6
  insert sample 1000 0

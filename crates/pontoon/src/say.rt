@@ -1,4 +1,5 @@
-// Words with numbers in them: in a text a # stands for a number, and a % for an s where the number before it is not 1.
+// Words with numbers in them: in a text a # stands for a number, and a % for an s where the number before it is not
+// 1. They go to whatever prints.
 ghost use Rattle.std.specs.Prelude.{◌≤◌, length};
 
 use crate::words::byte;

@@ -1,4 +1,5 @@
-// The tree as a picture in text: a line a page, from the root down, a level deeper for each indent; then the free pages. The walk follows children with one level less at each step.
+// The tree as a picture in text: a line a page, from the root down, a level deeper for each indent; then the free
+// pages. The walk follows children with one level less at each step.
 ghost use Rattle.std.specs.Prelude.{◌≡◌, ◌≤◌, true, IfOk};
 ghost use Rattle.model.specs.Head.{headed};
 ghost use Rattle.lend.specs.Pages.{most, Inside};

@@ -1,4 +1,5 @@
-// What there is to say of a whole pool: its kind, entries, levels and pages, how full they are, the room left, and where the cursor is. Of a pool that is not sound, what its head says.
+// What there is to say of a whole pool: its kind, entries, levels and pages, how full they are, the room left, and
+// where the cursor is. Of a pool that is not sound, what its head says.
 ghost use Rattle.std.specs.Prelude.{◌≡◌, true};
 ghost use Rattle.model.specs.Head.{headed};
 

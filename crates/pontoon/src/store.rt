@@ -1,7 +1,6 @@
-// A pool's words as a file's bytes, 8 for each word, the lowest first, and nothing else. A file is replaced in one step:
-// the new bytes go into a file beside it, which then takes its name, so that a crash leaves the old pool or the new one.
-ghost use Rattle.std.specs.Prelude.{◌≤◌, length, IfOk};
-
+// A pool's words as a file's bytes, 8 for each word, the lowest first, and nothing else. A file is replaced in one
+// step: the new bytes go into a file beside it, which then takes its name, so that a crash leaves the old pool or the
+// new one.
 use crate::complain;
 use crate::words::{byte, put};
 use model::{FIRST_PAGE, MOST_PAGES, PAGE_WORDS};
@@ -9,6 +8,7 @@ use std::fs::{File, OpenFile, OpenOptions};
 use std::io::{Read, Write};
 use std::rt::Files;
 use std::{fs, io};
+use table::read_full;
 
 // Words of the largest pool.
 pub const WORDS: usize = FIRST_PAGE + PAGE_WORDS * MOST_PAGES;
@@ -110,21 +110,6 @@ fn rename(rt: &impl Files, from: &[u8], to: &[u8]) -> io::Result<()> {
 
 // ---- loading
 
-// Fills the bytes from their start, until they are full or the file ends; how many it filled.
-fn read_full(file: &mut impl Read, bytes: &mut [u8]) -> io::Result<usize>
-    ensures { IfOk result (λ n. n ≤ length bytes.new) }
-{
-    let mut n: usize = 0;
-    while n < bytes.len() {
-        let more = file.read(&mut bytes[n..])?;
-        if more == 0 {
-            break;
-        }
-        n += more;
-    }
-    Ok(n)
-}
-
 // The next bytes of a file as words; how many bytes there were.
 fn read_some(file: &mut impl Read, words: &mut [u64]) -> io::Result<usize> {
     let mut bytes = [0u8; 8 * SOME];
@@ -186,7 +171,8 @@ pub fn load(rt: &impl Files, err: &impl Print, path: &[u8], words: &mut [u64]) -
 
 // ---- storing
 
-// Text at a place of a name, and the place after it; what does not fit is left out, and the place is then past the name's end.
+// Text at a place of a name, and the place after it; what does not fit is left out, and the place is then past the
+// name's end.
 fn append(name: &mut [u8], at: usize, text: &[u8]) -> usize {
     let mut to = at;
     let mut i: usize = 0;

@@ -1,4 +1,5 @@
-// How each command is written, once: a line for each, by whose first word the command is known. And how many words and numbers go with it.
+// How each command is written, once: a line for each, by whose first word the command is known. And how many words
+// and numbers go with it.
 use crate::words::{LINE, count, is, word};
 use std::io;
 
@@ -83,7 +84,8 @@ pub const SCRUB: usize = 22;
 
 pub const UNKNOWN: usize = 23;
 
-// The fewest words of a command, its own among them, and the most; and how many of those after the file's name are numbers and nothing else.
+// The fewest words of a command, its own among them, and the most; and how many of those after the file's name are
+// numbers and nothing else.
 #[derive(Clone, Copy)]
 pub struct Shape(pub usize, pub usize, pub usize);
 

@@ -1,5 +1,6 @@
-// The words of a command in one line of bytes. The line's first byte stands before each word: 0 in the program's arguments, whose names of files may have spaces in them, and a space in text.
-// Lines of a text are its words likewise, where it begins with a line's end. And numbers by their figures.
+// The words of a command in one line of bytes. The line's first byte stands before each word: 0 in the program's
+// arguments, whose names of files may have spaces in them, and a space in text. Lines of a text are its words
+// likewise, where it begins with a line's end. And numbers by their figures.
 ghost use Rattle.std.specs.Prelude.{◌≤◌, length};
 
 use std::env::{Env, FillError};

@@ -1,4 +1,5 @@
-// Our answers in the list's words, and whether a line tells the same.
+// Our answers in the list's words, and whether a line tells the same. A refusal, or a line that is not understood, is
+// never the same.
 use crate::text::{Word, byte, end, number, same};
 
 #[derive(Clone, Copy)]

@@ -1,4 +1,5 @@
-// The list's text: words, which end at a space or at the line's end, and numbers.
+// The list's text: words, which end at a space or at the line's end, and numbers. Past its end every byte is 0, which
+// ends a word too.
 ghost use Rattle.std.specs.Prelude.{◌≤◌};
 
 // A byte of the text; 0 past its end.

@@ -1,4 +1,5 @@
--- `replay` ends: fewer bytes of the text are left at each turn.
+-- `replay` ends.
+-- Its measure: how much of the text is left.
 use Rattle.std.proofs.Common.{◌-◌, length}
 use Rattle.replay.proofs.replay.Given as goal
 

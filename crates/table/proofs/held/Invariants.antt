@@ -1,4 +1,5 @@
--- `held` ends: fewer places are left at each turn.
+-- `held` ends.
+-- Its measure: how many places are left.
 use Rattle.std.proofs.Common.{◌-◌}
 use Rattle.table.proofs.held.Given as goal
 

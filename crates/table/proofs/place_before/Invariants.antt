@@ -1,4 +1,5 @@
 -- `place_before` ends, at `place` or before.
+-- Its measure: how many places are left before it.
 use Rattle.std.proofs.Common.{◌≤◌}
 use Rattle.table.proofs.place_before.Given as goal
 

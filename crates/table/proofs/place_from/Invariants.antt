@@ -1,4 +1,5 @@
 -- `place_from` stays inside the table and ends, at `place` or after.
+-- Its measure: how many places of the table are left.
 use Rattle.std.proofs.Common.{◌-◌, ◌≤◌, length}
 use Rattle.table.proofs.place_from.Given as goal
 

@@ -1,4 +1,5 @@
--- `print` ends: fewer bytes are left at each turn.
+-- `print` ends.
+-- Its measure: how much of the text is left.
 use Rattle.std.proofs.Common.{◌-◌, length}
 use Rattle.table.proofs.print.Given as goal
 

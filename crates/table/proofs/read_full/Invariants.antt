@@ -1,4 +1,5 @@
 -- `read_full` ends, with no more bytes than there are: each read but the last fills one or more.
+-- Its measure: how many bytes are left.
 use Rattle.std.proofs.Common.{◌-◌, ◌≤◌, length}
 use Rattle.table.proofs.read_full.Given as goal
 

@@ -1,4 +1,5 @@
--- `steps` ends: fewer steps are left at each turn.
+-- `steps` ends.
+-- Its measure: how many steps are left.
 use Rattle.std.proofs.Common.{◌-◌}
 use Rattle.pontoon.proofs.look.steps.Given as goal
 

@@ -1,4 +1,5 @@
--- `play` ends: fewer lines of the script are left at each turn.
+-- `play` ends.
+-- Its measure: how many are left.
 use Rattle.std.proofs.Common.{◌-◌}
 use Rattle.pontoon.proofs.sample.play.Given as goal
 

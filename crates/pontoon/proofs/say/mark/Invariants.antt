@@ -1,4 +1,5 @@
 -- `mark` stays inside the text and ends, at `from` or after.
+-- Its measure: how much of the text is left.
 use Rattle.std.proofs.Common.{◌-◌, ◌≤◌, length}
 use Rattle.pontoon.proofs.say.mark.Given as goal
 

@@ -1,4 +1,5 @@
 -- `put` stays inside the text and ends.
+-- Its measure: how much of the text is left.
 use Rattle.std.proofs.Common.{◌-◌, length}
 use Rattle.pontoon.proofs.say.put.Given as goal
 

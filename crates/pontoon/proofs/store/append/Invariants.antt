@@ -1,4 +1,5 @@
--- `append` ends: fewer bytes of the text are left at each turn.
+-- `append` ends.
+-- Its measure: how much of the text is left.
 use Rattle.std.proofs.Common.{◌-◌, length}
 use Rattle.pontoon.proofs.store.append.Given as goal
 

@@ -1,4 +1,5 @@
--- `decode` ends: fewer words are left at each turn.
+-- `decode` ends.
+-- Its measure: how many are left.
 use Rattle.std.proofs.Common.{◌-◌}
 use Rattle.pontoon.proofs.store.decode.Given as goal
 

@@ -1,4 +1,5 @@
--- `encode` ends: fewer bytes are left at each turn.
+-- `encode` ends.
+-- Its measure: how many bytes are left.
 use Rattle.std.proofs.Common.{◌-◌, length}
 use Rattle.pontoon.proofs.store.encode.Given as goal
 

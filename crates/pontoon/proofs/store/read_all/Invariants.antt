@@ -1,4 +1,5 @@
 -- `read_all` ends, past the words by fewer than are read at a time.
+-- Its measure: how many words are left.
 use Rattle.std.proofs.Common.{◌+◌, ◌-◌, ◌≤◌, length}
 use Rattle.pontoon.proofs.store.read_all.Given as goal
 

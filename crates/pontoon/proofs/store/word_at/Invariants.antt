@@ -1,4 +1,5 @@
--- `word_at` ends: fewer bytes are left at each turn.
+-- `word_at` ends.
+-- Its measure: the bytes of the word that are left, of eight.
 use Rattle.std.proofs.Common.{◌≤◌}
 use Rattle.pontoon.proofs.store.word_at.Given as goal
 

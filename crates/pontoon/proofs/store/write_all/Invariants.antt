@@ -1,4 +1,5 @@
--- `write_all` ends: fewer words are left at each turn.
+-- `write_all` ends.
+-- Its measure: how many words are left.
 use Rattle.std.proofs.Common.{◌-◌, length}
 use Rattle.pontoon.proofs.store.write_all.Given as goal
 

@@ -1,4 +1,5 @@
--- `row` ends: fewer lines are left at each turn.
+-- `row` ends.
+-- Its measure: how many are left.
 use Rattle.std.proofs.Common.{◌-◌}
 use Rattle.pontoon.proofs.usage.row.Given as goal
 

@@ -1,4 +1,5 @@
 -- `find` stays inside the bytes and ends, at `from` or after.
+-- Its measure: how many bytes are left.
 use Rattle.std.proofs.Common.{◌-◌, ◌≤◌, length}
 use Rattle.pontoon.proofs.words.find.Given as goal
 

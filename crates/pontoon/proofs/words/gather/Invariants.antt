@@ -1,4 +1,5 @@
--- `gather` ends: fewer arguments are left at each turn.
+-- `gather` ends.
+-- Its measure: how many are left.
 use Rattle.std.proofs.Common.{◌-◌}
 use Rattle.pontoon.proofs.words.gather.Given as goal
 

@@ -1,4 +1,5 @@
 -- `is` stays inside both words and ends.
+-- Its measure: how much of the word is left.
 use Rattle.std.proofs.Common.{◌-◌, length}
 use Rattle.pontoon.proofs.words.is.Given as goal
 

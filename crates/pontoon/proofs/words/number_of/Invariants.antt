@@ -1,4 +1,5 @@
 -- `number_of` stays inside the word and ends.
+-- Its measure: how much of the word is left.
 use Rattle.std.proofs.Common.{◌-◌, length}
 use Rattle.pontoon.proofs.words.number_of.Given as goal
 

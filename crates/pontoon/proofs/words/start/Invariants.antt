@@ -1,4 +1,5 @@
 -- `start` stays inside the line and ends.
+-- Its measure: how much of the line is left.
 use Rattle.std.proofs.Common.{◌-◌, ◌≤◌, length}
 use Rattle.pontoon.proofs.words.start.Given as goal
 

@@ -1,4 +1,5 @@
--- `tells` ends: fewer entries are left at each turn.
+-- `tells` ends.
+-- Its measure: how many are left.
 use Rattle.std.proofs.Common.{◌-◌}
 use Rattle.replay.proofs.lists.tells.Given as goal
 

@@ -1,4 +1,5 @@
--- `row` ends: fewer figures are left at each turn.
+-- `row` ends.
+-- Its measure: how many figures are left.
 use Rattle.std.proofs.Common.{◌-◌}
 use Rattle.replay.proofs.tally.row.Given as goal
 

@@ -1,4 +1,5 @@
--- `write_rows` ends: fewer figures are left at each turn.
+-- `write_rows` ends.
+-- Its measure: how many figures are left.
 use Rattle.std.proofs.Common.{◌-◌}
 use Rattle.replay.proofs.tally.write_rows.Given as goal
 

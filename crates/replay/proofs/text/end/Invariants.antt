@@ -1,4 +1,5 @@
 -- `end` stays inside the text and ends, at `at` or after.
+-- Its measure: how much of the text is left.
 use Rattle.std.proofs.Common.{◌-◌, ◌≤◌, length}
 use Rattle.replay.proofs.text.end.Given as goal
 

@@ -1,4 +1,5 @@
 -- `number` stays inside the text and ends.
+-- Its measure: how much of the text is left.
 use Rattle.std.proofs.Common.{◌-◌, length}
 use Rattle.replay.proofs.text.number.Given as goal
 

@@ -1,4 +1,5 @@
 -- `same` stays inside the texts and ends.
+-- Its measure: how much of the text is left.
 use Rattle.std.proofs.Common.{◌-◌, length}
 use Rattle.replay.proofs.text.same.Given as goal
 

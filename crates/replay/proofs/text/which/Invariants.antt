@@ -1,4 +1,5 @@
--- `which` ends: fewer bytes of the names are left at each turn.
+-- `which` ends.
+-- Its measure: how much of the names is left.
 use Rattle.std.proofs.Common.{◌-◌, length}
 use Rattle.replay.proofs.text.which.Given as goal
 

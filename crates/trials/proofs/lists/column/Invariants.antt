@@ -1,4 +1,5 @@
 -- `column` stays inside the column and ends.
+-- Its measure: how much of the column is left.
 use Rattle.std.proofs.Common.{◌-◌, length}
 use Rattle.trials.proofs.lists.column.Given as goal
 

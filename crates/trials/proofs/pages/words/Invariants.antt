@@ -1,4 +1,5 @@
--- `words` ends: fewer words are left at each turn.
+-- `words` ends.
+-- Its measure: how many are left.
 use Rattle.std.proofs.Common.{◌-◌}
 use Rattle.trials.proofs.pages.words.Given as goal
 

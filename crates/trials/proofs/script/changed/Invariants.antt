@@ -1,4 +1,5 @@
--- `changed` ends: fewer words are left at each turn.
+-- `changed` ends.
+-- Its measure: how many of the words of three pages are left.
 use Rattle.std.proofs.Common.{◌-◌}
 use Rattle.trials.proofs.script.changed.Given as goal
 

@@ -1,4 +1,5 @@
--- `lay` ends: fewer words are left at each turn.
+-- `lay` ends.
+-- Its measure: how many words are left.
 use Rattle.std.proofs.Common.{◌-◌, length}
 use Rattle.trials.proofs.script.lay.Given as goal
 

@@ -1,4 +1,5 @@
--- `moved` ends: fewer words are left at each turn.
+-- `moved` ends.
+-- Its measure: how many of the words of three pages are left.
 use Rattle.std.proofs.Common.{◌-◌}
 use Rattle.trials.proofs.script.moved.Given as goal
 

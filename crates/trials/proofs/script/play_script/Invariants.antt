@@ -1,4 +1,5 @@
--- `play_script` ends: fewer bytes of the script are left at each turn.
+-- `play_script` ends.
+-- Its measure: how much of the script is left.
 use Rattle.std.proofs.Common.{◌-◌, length}
 use Rattle.trials.proofs.script.play_script.Given as goal
 

@@ -1,4 +1,5 @@
--- `run` ends: fewer calls are left at each turn.
+-- `run` ends.
+-- Its measure: how many calls are left.
 use Rattle.std.proofs.Common.{◌-◌}
 use Rattle.trials.proofs.trial.run.Given as goal
 
