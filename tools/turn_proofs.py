@@ -20,6 +20,7 @@ EASY = {"search rules", "omega arith", "tt", "search rules"}
 def norm(s):
     s = s.replace("_", "-")
     s = re.sub(r"^overflow-", "", s)
+    s = re.sub(r"^slice-bounds-", "part-", s)
     s = re.sub(r"^(.*loop\d*)-holds$", r"\1-init", s)
     s = re.sub(r"^(.*loop\d*)-less$", r"\1-smaller", s)
     return re.sub(r"^(.*loop\d*)-again$", r"\1-preserved", s)

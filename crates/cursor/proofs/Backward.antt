@@ -4,13 +4,12 @@
 -- Assumes nothing.
 use mathlib.Core.Path.{◌≡◌, refl, sym, ap, ap₂, subst, ◌∙◌}
 use mathlib.Core.Bool.{true}
-use mathlib.Core.Logic.{◌⊎◌, ◌≢◌}
-use mathlib.Core.Option.{none, some}
+use mathlib.Core.Logic.{◌≢◌}
+use mathlib.Core.Option.{Option, none, some}
 use mathlib.Core.List.{List}
 use Prim.Native.Nat.{ℕ}
 use native.Mathlib.Omega.{arith}
 use lib.ListN.{length, get_or}
-use denote.Enum.Declared.{tag_of}
 use Rattle.model.specs.Head.{levels_word, after_word, key_word, headed}
 use Rattle.model.specs.Tree.{entry, no_entry, held}
 use Rattle.model.specs.Page.{entry_in}
@@ -26,14 +25,14 @@ use Rattle.tree.specs.declared.search.Got.{Got}
 use Rattle.tree.specs.declared.search.Got.TheVariants as got
 use Rattle.tree.specs.declared.steps.Spot.{Spot}
 use Rattle.tree.specs.Sits.{PathOf}
-use Rattle.tree.specs.Search.{Gets, ReadFew}
+use Rattle.tree.specs.Search.{Gets, ReadFew, got_by}
 use Rattle.tree.specs.Steps.{SpotBefore}
 use Rattle.tree.specs.Write.{Writes}
 use Rattle.map.specs.declared.entry.Sought.{Sought}
 use Rattle.map.specs.declared.entry.Sought.TheVariants as sought
 use Rattle.map.specs.Entry.{Finds, SeeksKey}
 use Rattle.cursor.specs.Gap.{rest_words}
-use Rattle.model.proofs.Cases.{contrary, other_tag}
+use Rattle.model.proofs.Cases.{contrary}
 use Rattle.model.proofs.Basics.{next-some}
 use Rattle.model.proofs.Head.{head-facts}
 use Rattle.model.proofs.Entries.{lookup-at}
@@ -41,9 +40,7 @@ use Rattle.model.proofs.Right.{sound-right}
 use Rattle.model.proofs.Written.{sound-written}
 use Rattle.model.proofs.Keeps.{keeps-reads, keeps-prev, keeps-write-prev}
 use Rattle.model.proofs.Meets.{meets-answered, meets-unsound, meets-read}
-use Rattle.tree.specs.contracts.search.Got.{the_type as got-type}
 use Rattle.tree.proofs.Sitting.{sound-sits}
-use Rattle.map.specs.contracts.entry.Sought.{the_type as sought-type}
 use Rattle.map.proofs.Placing.{spot-value}
 use Rattle.map.proofs.Calling.{overwritten, gets-value}
 use Rattle.cursor.proofs.Gaps.{Ready, passes-cursor, Named, gap-start, gap-named, gap_same, rest-long, rest-written}
@@ -68,6 +65,10 @@ module _ (w : List ℕ) (s : Sound w) where
     prev-some {x} v =
         let value : (get_or (held_by (pool_of w)) g no_entry).value ≡ x = cc named_value in
         rw n.at (next-some (held_by (pool_of w)) g no_entry n.there ∙ ap some (ap₂ entry n.key value))
+
+-- what a search that finds a value cannot be
+got-there : (o : Option ℕ) (n : ℕ) {x : ℕ} {r : Got} → o ≡ some x → r ≡ got_by 0 o n → ((v k : ℕ) → r ≡ got.Value v k → ⊥) → ⊥
+got-there o n {x = x} value e others = others x _ (e ∙ ap (λ (q : Option ℕ). got_by 0 q n) value)
 
 -- ---- the calls, past their first tests
 
@@ -100,23 +101,21 @@ module _ {w : List ℕ} (pass : 0 ≡ refusal (cursor_tests w)) where
     named s = gap-named w s ready.opened after
 
     -- a search for its key finds it
-    found-tag : (r : Sought) → Finds w (key_word w) r → Sound w → tag_of sought-type r ≡ 0
-    found-tag (sought.Here p i) finds s = refl
-    found-tag sought.Absent finds s = contrary (named s).1.member (finds.absent refl s)
-    found-tag sought.Unsound finds s = absurd (finds.unsound refl s)
+    found-there : (r : Sought) → Finds w (key_word w) r → ((p i : ℕ) → r ≡ sought.Here p i → ⊥) → Sound w → ⊥
+    found-there (sought.Here p i) finds others s = others p i refl
+    found-there sought.Absent finds others s = contrary (named s).1.member (finds.absent refl s)
+    found-there sought.Unsound finds others s = finds.unsound refl s
 
-    got-tag : {r : Got} → Gets w (key_word w) r → Sound w → tag_of got-type r ≡ 0
-    got-tag gets s = ap (tag_of got-type) (gets s) ∙ rw (named_value w s (named s).1)
-
-    module _ {r : Sought} (finds : Finds w (key_word w) r) (others : (tag_of sought-type r ≡ 1) ⊎ (tag_of sought-type r ≡ 2)) where
+    module _ {r : Sought} (finds : Finds w (key_word w) r) (others : (p i : ℕ) → r ≡ sought.Here p i → ⊥) where
       pub prev-lost : Meets cursor_prev w w (refused 9)
-      prev-lost = meets-unsound (λ w p. (refl, refl)) keeps-prev pass (refl, λ s. other_tag (found-tag r finds s) others)
+      prev-lost = meets-unsound (λ w p. (refl, refl)) keeps-prev pass (refl, found-there r finds others)
 
       pub write-prev-lost : (x : ℕ) → Meets (cursor_write_prev x) w w (refused 9)
-      write-prev-lost x = meets-unsound (λ w p. (refl, refl)) (keeps-write-prev x) pass (refl, λ s. other_tag (found-tag r finds s) others)
+      write-prev-lost x = meets-unsound (λ w p. (refl, refl)) (keeps-write-prev x) pass (refl, found-there r finds others)
 
-    pub peek-prev-lost : {r : Got} → Gets w (key_word w) r → (tag_of got-type r ≡ 1) ⊎ (tag_of got-type r ≡ 2) → Meets cursor_peek_prev w w (refused 9)
-    peek-prev-lost gets others = meets-unsound (λ w p. (refl, refl)) (keeps-reads cursor_tests prev_of) pass (refl, λ s. other_tag (got-tag gets s) others)
+    pub peek-prev-lost : {r : Got} → Gets w (key_word w) r → ((v n : ℕ) → r ≡ got.Value v n → ⊥) → Meets cursor_peek_prev w w (refused 9)
+    peek-prev-lost gets others =
+        meets-unsound (λ w p. (refl, refl)) (keeps-reads cursor_tests prev_of) pass (refl, λ s. got-there _ _ (named_value w s (named s).1) (gets s) others)
 
     pub prev-back : {ps ss ps' ss' v : List ℕ} {r : Sought} {p i key x : ℕ} {behind : Spot}
         → SeeksKey w (key_word w) ps ss ps' ss' r → r ≡ sought.Here p i → entry key x ≡ entry_in most (page_in w p) i → SpotBefore w ps' ss' behind → v ≡ rest_words behind w

@@ -3,11 +3,10 @@
 -- Assumes nothing.
 use mathlib.Core.Path.{◌≡◌, refl, sym, ap, subst, ◌∙◌}
 use mathlib.Core.Bool.{Bool, false, cond}
-use mathlib.Core.Logic.{◌≢◌, ◌⊎◌, ⊎_elim}
+use mathlib.Core.Logic.{◌≢◌}
 use mathlib.Core.List.{List}
 use Prim.Native.Nat.{ℕ, zero, suc, ◌≤◌}
 use native.Mathlib.Omega.{arith}
-use denote.Enum.Declared.{tag_of}
 use lib.Dec.{eqb}
 use lib.ListN.{length}
 use borrow.Author.Tests.{eq-eqb, ne_eqb}
@@ -45,7 +44,6 @@ use Rattle.model.proofs.Keeps.{Keeps, of-kind}
 use Rattle.model.proofs.Written.{sound-written}
 use Rattle.model.proofs.Meets.{meets-answered, meets-unsound, reading-first, reading-passed}
 use Rattle.model.proofs.Reading.{pages-told, pages-refused}
-use Rattle.tree.specs.contracts.search.Aim.{the_type}
 use Rattle.tree.proofs.Sitting.{sound-sits}
 use Rattle.map.proofs.Answers.{number-some}
 use Rattle.map.proofs.Calling.{meets-refused}
@@ -73,15 +71,13 @@ module _ {aim : Aim} {w ps ss ps' ss' : List ℕ} {b : Bool} (sought : Seeks w a
         );
       }
 
--- any gap but the start is sought; in the else of a `let`, only the tag is known
-pub opens-else : (aim : Aim) (levels : ℕ) {w v : List ℕ} {r : Opened} → (tag_of the_type aim ≡ 0) ⊎ ((tag_of the_type aim ≡ 1) ⊎ (tag_of the_type aim ≡ 3)) → Opens aim levels w v r
+-- any gap but the start is sought
+pub opens-else : (aim : Aim) (levels : ℕ) {w v : List ℕ} {r : Opened} → (aim ≡ Start → ⊥) → Opens aim levels w v r
     → Opens aim (aim_read aim levels) w v r
-opens-else (Before k) levels tag opens = opens
-opens-else (After k) levels tag opens = opens
-opens-else Start levels tag opens =
-    ⊎_elim (λ (q : ◌≡◌ {A = ℕ} 2 0). absurd (omega arith))
-    (⊎_elim (λ (q : ◌≡◌ {A = ℕ} 2 1). absurd (omega arith)) (λ (q : ◌≡◌ {A = ℕ} 2 3). absurd (omega arith))) tag
-opens-else End levels tag opens = opens
+opens-else (Before k) levels other opens = opens
+opens-else (After k) levels other opens = opens
+opens-else Start levels other opens = absurd (other refl)
+opens-else End levels other opens = opens
 
 pub opens-start : {aim : Aim} {w v : List ℕ} → aim ≡ Start → v ≡ gap_words 1 0 0 w → Opens aim (aim_read aim (levels_word w)) w v (opened.Read 0)
 opens-start {w = w} start laid =

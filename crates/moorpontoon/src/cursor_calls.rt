@@ -17,7 +17,7 @@ pub extern "C" fn mp_cursor_open_lower(
     key: u64,
     out: &mut [u64],
 ) -> u64
-    ensures* { λ n. ⌜ Called amount (ReadsPages (cursor_open_lower kind key) (λ n. n)) pool.old pool.new out.old out.new n ⌝ }
+    ensures { Called amount (ReadsPages (cursor_open_lower kind key) (λ n. n)) pool.old pool.new out.old out.new result }
 {
     if out.len() < OUT {
         return SHORT;
@@ -33,7 +33,7 @@ pub extern "C" fn mp_cursor_open_upper(
     key: u64,
     out: &mut [u64],
 ) -> u64
-    ensures* { λ n. ⌜ Called amount (ReadsPages (cursor_open_upper kind key) (λ n. n)) pool.old pool.new out.old out.new n ⌝ }
+    ensures { Called amount (ReadsPages (cursor_open_upper kind key) (λ n. n)) pool.old pool.new out.old out.new result }
 {
     if out.len() < OUT {
         return SHORT;

@@ -1,12 +1,10 @@
 -- `insert::insert` meets its contract: the pages needed are counted, and where they are there the entry goes in along
 -- the path, a new root is made where the old one split, and the count is one more.
 use mathlib.Core.Path.{◌≡◌, sym, ◌∙◌}
-use mathlib.Core.Logic.{⊎_elim}
 use Prim.Native.Nat.{◌*◌, ◌≤◌}
 use native.Mathlib.Omega.{arith}
 use lib.ListN.{length, length-set}
-use borrow.Author.Rules.{rules}
-use borrow.Author.Tests.{leb-true, leb-false, not-true, not-false}
+use borrow.Author.Tests.{leb-true, leb-false}
 use Rattle.model.specs.Layout.{head_words, most_pages, most_entries, first_word, word, today}
 use Rattle.model.specs.Head.{geometry_of}
 use Rattle.lend.specs.Touches.{Sized}

@@ -1,5 +1,4 @@
 -- `insert::needed` meets its contract: the run of full pages, and one page more where it goes through the root.
-use borrow.Author.Rules.{rules}
 use Rattle.tree.proofs.Running.{needs-one, needs-same}
 use Rattle.tree.proofs.insert.needed.Goals as goal
 

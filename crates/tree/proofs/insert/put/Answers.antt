@@ -2,7 +2,6 @@
 use mathlib.Core.Path.{◌≡◌, sym, subst, ◌∙◌}
 use Prim.Native.Nat.{◌≤◌}
 use native.Mathlib.Omega.{arith}
-use borrow.Author.Rules.{rules}
 use Rattle.model.specs.Tree.{entry}
 use Rattle.model.specs.Page.{count_of}
 use Rattle.pagemap.specs.declared.Lowest.{Lowest}

@@ -2,7 +2,6 @@
 use mathlib.Core.Path.{sym}
 use native.Mathlib.Omega.{arith}
 use lib.ListN.{get_or-eq_default}
-use borrow.Author.Rules.{rules}
 use Rattle.tree.proofs.insert.root_of.Goals as goal
 
 pub returns-then-pages-eq0 : goal.returns-then-pages-eq0

@@ -4,10 +4,9 @@ use mathlib.Core.Path.{◌≡◌}
 use Prim.Native.Nat.{ℕ, suc, ◌-◌, ◌<◌}
 use native.Mathlib.Omega.{arith}
 use lib.ListN.{length}
-use borrow.Author.Rules.{rules}
 use Rattle.lend.specs.Pages.{Inside}
 use Rattle.model.proofs.Basics.{all-at}
-use Rattle.tree.proofs.Running.{Counted, counted_none, counted-room, counted-full, counted-all}
+use Rattle.tree.proofs.Running.{counted_none, counted-room, counted-full, counted-all}
 use Rattle.tree.proofs.insert.run.Goals as goal
 use Rattle.tree.proofs.insert.run.Goals.{In-loop-i}
 

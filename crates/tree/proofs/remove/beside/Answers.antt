@@ -4,8 +4,6 @@ use Prim.Native.Nat.{suc, ◌-◌}
 use native.Mathlib.Numerals.{add-one}
 use native.Mathlib.Omega.{arith}
 use lib.ListN.{length}
-use borrow.Author.Rules.{rules}
-use borrow.Author.Tests.{not-true}
 use Rattle.model.specs.Page.{count_of}
 use Rattle.lend.specs.Pages.{page_in}
 use Rattle.model.proofs.Cases.{contrary}

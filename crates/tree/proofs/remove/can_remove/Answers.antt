@@ -4,8 +4,6 @@ use mathlib.Core.Bool.{Bool}
 use Prim.Native.Nat.{ℕ, ◌-◌, ◌≤◌, ◌<◌}
 use native.Mathlib.Omega.{arith}
 use lib.ListN.{length, get_or}
-use borrow.Author.Rules.{rules}
-use borrow.Author.Tests.{not-true}
 use Rattle.lend.specs.Pages.{most, Inside}
 use Rattle.tree.specs.Remove.{Beside}
 use Rattle.tree.proofs.Paths.{path-at}

@@ -1,7 +1,6 @@
 -- `remove::count_below` meets its contract: the child is found, or not.
 use mathlib.Core.Path.{sym, ◌∙◌}
 use native.Mathlib.Omega.{arith}
-use borrow.Author.Rules.{rules}
 use Rattle.tree.proofs.Searching.{below-inside}
 use Rattle.tree.proofs.Planning.{count-found, count-lost}
 use Rattle.tree.proofs.remove.count_below.Goals as goal

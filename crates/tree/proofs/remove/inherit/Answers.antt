@@ -1,6 +1,5 @@
 -- `remove::inherit` meets its contract: one entry set, or none.
 use native.Mathlib.Omega.{arith}
-use borrow.Author.Rules.{rules}
 use Rattle.tree.proofs.Heirs.{inherits-none, inherits-past, inherits-inside}
 use Rattle.tree.proofs.remove.inherit.Goals as goal
 

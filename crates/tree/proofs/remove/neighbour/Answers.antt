@@ -1,7 +1,6 @@
 -- `remove::neighbour` meets its contract: each answer by the tests that led there.
 use mathlib.Core.Path.{◌≡◌, sym, ◌∙◌}
 use native.Mathlib.Omega.{arith}
-use borrow.Author.Rules.{rules}
 use borrow.Author.Tests.{le-leb, lt-leb}
 use Rattle.tree.specs.Remove.{count_below}
 use Rattle.page.proofs.Pages.{last-test}

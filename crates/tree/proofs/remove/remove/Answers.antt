@@ -4,8 +4,6 @@ use mathlib.Core.Path.{◌≡◌, ◌∙◌}
 use Prim.Native.Nat.{◌≤◌}
 use native.Mathlib.Omega.{arith}
 use lib.ListN.{length, length-set}
-use borrow.Author.Rules.{rules}
-use borrow.Author.Tests.{not-true}
 use Rattle.model.specs.Layout.{head_words, first_word, word, today}
 use Rattle.model.specs.Head.{geometry_of}
 use Rattle.lend.specs.Pages.{Inside}

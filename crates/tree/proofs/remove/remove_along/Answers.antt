@@ -5,7 +5,6 @@ use mathlib.Core.List.{List}
 use Prim.Native.Nat.{ℕ, ◌-◌, ◌≤◌, ◌<◌}
 use native.Mathlib.Omega.{arith}
 use lib.ListN.{length, drop, get_or}
-use borrow.Author.Rules.{rules}
 use Rattle.model.specs.Layout.{today, first_word}
 use Rattle.lend.specs.Pages.{least, most, Inside}
 use Rattle.tree.specs.declared.remove.Gone.{Gone}

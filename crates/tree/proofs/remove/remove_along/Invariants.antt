@@ -1,18 +1,11 @@
 -- `remove::remove_along` meets its contract: at each place of the path, what is done is what a removal below that place
 -- does; where it stops, nothing is left to do above.
-use mathlib.Core.Path.{◌≡◌, refl, subst, ◌∙◌}
+use mathlib.Core.Path.{◌≡◌}
 use mathlib.Core.List.{List}
-use Prim.Native.Nat.{ℕ, ◌-◌, ◌≤◌, ◌<◌}
-use native.Mathlib.Omega.{arith}
-use lib.ListN.{length, drop, get_or}
-use borrow.Author.Rules.{rules}
-use Rattle.model.specs.Layout.{today, first_word}
-use Rattle.lend.specs.Pages.{least, most, Inside}
+use Prim.Native.Nat.{ℕ, ◌≤◌}
+use lib.ListN.{length, drop}
 use Rattle.tree.specs.declared.remove.Gone.{Gone}
-use Rattle.tree.specs.Remove.{count_below, Mends, Inherits, RemovesBelow}
-use Rattle.tree.proofs.Paths.{path-at}
-use Rattle.tree.proofs.Shrinking.{along-leaf, along-upper}
-use Rattle.tree.proofs.Settling.{keeps, along-settled}
+use Rattle.tree.specs.Remove.{RemovesBelow}
 use Rattle.tree.proofs.remove.remove_along.Given as goal
 
 -- from place i₀ to place i, whatever the pool was before

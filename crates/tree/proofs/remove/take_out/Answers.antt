@@ -1,7 +1,6 @@
 -- `remove::take_out` meets its contract: the entry at the slot, or the last.
 use Prim.Native.Nat.{◌-◌}
 use native.Mathlib.Omega.{arith}
-use borrow.Author.Rules.{rules}
 use Rattle.model.specs.Page.{count_of}
 use Rattle.lend.specs.Pages.{page_in}
 use Rattle.tree.proofs.Heirs.{takes-inside, takes_none, takes-last}

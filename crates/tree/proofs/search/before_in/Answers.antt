@@ -1,6 +1,5 @@
 -- `search::before_in` meets its contract: the height is tested, and the page's slot is the answer.
 use mathlib.Core.Path.{◌∙◌}
-use borrow.Author.Rules.{rules}
 use Rattle.tree.proofs.Searching.{slot-other, slot_same}
 use Rattle.tree.proofs.search.before_in.Goals as goal
 

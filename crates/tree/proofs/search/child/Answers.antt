@@ -1,5 +1,4 @@
 -- `search::child` meets its contract: each answer by the tests that led there.
-use borrow.Author.Rules.{rules}
 use Rattle.tree.proofs.Searching.{below-far, below-page, below-past}
 use Rattle.tree.proofs.search.child.Goals as goal
 

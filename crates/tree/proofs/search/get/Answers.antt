@@ -2,7 +2,6 @@
 use mathlib.Core.Path.{refl}
 use Prim.Native.Nat.{◌-◌}
 use native.Mathlib.Omega.{arith}
-use borrow.Author.Rules.{rules}
 use Rattle.model.specs.Head.{levels_word}
 use Rattle.model.proofs.Cases.{never}
 use Rattle.lend.proofs.Fitting.{head-long, head-levels, head-root}

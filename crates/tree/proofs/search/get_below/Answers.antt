@@ -5,9 +5,6 @@ use Prim.Native.Nat.{◌+◌, ◌-◌}
 use native.Mathlib.Omega.{arith}
 use borrow.Author.Rules.{rules}
 use Rattle.model.specs.Tree.{Entry}
-use Rattle.lend.specs.Pages.{Inside}
-use Rattle.tree.specs.declared.search.Got.{Got}
-use Rattle.tree.specs.Search.{GetsBelow}
 use Rattle.model.proofs.Cases.{never}
 use Rattle.lend.proofs.Lent.{page-inside}
 use Rattle.tree.proofs.Searching.{here-few, below-inside, get-unsound, get-here, get_absent, get-lost, get-down}

@@ -1,16 +1,10 @@
 -- `search::get_below` meets its contract. The loop keeps what is left to do: what the search from the page at hand
 -- answers, the whole search answers; and pages read and levels left add up to the levels.
-use mathlib.Core.Path.{◌≡◌, refl, sym, ap, ◌∙◌}
-use Prim.Native.Nat.{◌+◌, ◌-◌}
-use native.Mathlib.Omega.{arith}
-use borrow.Author.Rules.{rules}
-use Rattle.model.specs.Tree.{Entry}
+use mathlib.Core.Path.{◌≡◌}
+use Prim.Native.Nat.{◌+◌}
 use Rattle.lend.specs.Pages.{Inside}
 use Rattle.tree.specs.declared.search.Got.{Got}
 use Rattle.tree.specs.Search.{GetsBelow}
-use Rattle.model.proofs.Cases.{never}
-use Rattle.lend.proofs.Lent.{page-inside}
-use Rattle.tree.proofs.Searching.{here-few, below-inside, get-unsound, get-here, get_absent, get-lost, get-down}
 use Rattle.tree.proofs.search.get_below.Given as goal
 
 abbrev pub invariant-loop-i : goal.invariant-loop-i

@@ -1,6 +1,5 @@
 -- `search::look` meets its contract: each answer by the tests that led there.
 use mathlib.Core.Path.{◌∙◌}
-use borrow.Author.Rules.{rules}
 use Rattle.tree.proofs.Searching.{place_other, place_same}
 use Rattle.tree.proofs.search.look.Goals as goal
 

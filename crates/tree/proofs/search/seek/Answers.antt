@@ -1,7 +1,6 @@
 -- `search::seek` meets its contract: the path from the root's page is the pool's.
 use mathlib.Core.Path.{refl, sym, ◌∙◌}
 use native.Mathlib.Omega.{arith}
-use borrow.Author.Rules.{rules}
 use Rattle.lend.proofs.Fitting.{head-long, head-root}
 use Rattle.tree.proofs.Seeking.{seek-none, seek-whole}
 use Rattle.tree.proofs.search.seek.Goals as goal

@@ -1,13 +1,9 @@
 -- `search::seek_below` meets its contract. The loop keeps what is left to do: the path from the page at hand, put behind what is recorded, is the whole path.
-use mathlib.Core.Path.{◌≡◌, refl, sym, ◌∙◌}
+use mathlib.Core.Path.{◌≡◌}
 use Prim.Native.Nat.{◌-◌, ◌<◌}
-use native.Mathlib.Omega.{arith}
-use lib.ListN.{length, length-set}
-use borrow.Author.Rules.{rules}
+use lib.ListN.{length}
 use Rattle.lend.specs.Pages.{Inside}
-use Rattle.lend.proofs.Lent.{page-inside}
-use Rattle.tree.proofs.Searching.{below-inside}
-use Rattle.tree.proofs.Seeking.{Rest, rest-unsound, rest_end, rest-lost, rest-down}
+use Rattle.tree.proofs.Seeking.{Rest}
 use Rattle.tree.proofs.search.seek_below.Given as goal
 
 abbrev pub invariant-loop-slot : goal.invariant-loop-slot

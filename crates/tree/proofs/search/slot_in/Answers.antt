@@ -1,6 +1,5 @@
 -- `search::slot_in` meets its contract: each aim by its own search.
 use mathlib.Core.Path.{sym, ◌∙◌}
-use borrow.Author.Rules.{rules}
 use Rattle.tree.proofs.Searching.{start-at, start-lost}
 use Rattle.tree.proofs.search.slot_in.Goals as goal
 

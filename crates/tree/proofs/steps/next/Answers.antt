@@ -1,132 +1,52 @@
 -- `steps::next` meets its contract. The loop's invariant: what hangs under the pages that are left is at its end.
-use mathlib.Core.Path.{◌≡◌, refl, ap, subst}
-use Prim.Native.Nat.{ℕ, suc, ◌-◌, ◌≤◌, ◌<◌}
+use mathlib.Core.Path.{◌≡◌, refl, subst}
+use Prim.Native.Nat.{◌-◌}
 use native.Mathlib.Omega.{arith}
-use lib.ListN.{length, get_or, drop, length-drop}
-use borrow.Author.Rules.{rules}
+use lib.ListN.{drop}
 use Rattle.model.specs.Entries as model
 use Rattle.model.specs.Entries.{forth}
-use Rattle.lend.specs.Pages.{most}
 use Rattle.tree.specs.declared.steps.Step.{Step}
 use Rattle.tree.specs.declared.steps.Step.TheVariants as step
 use Rattle.tree.specs.Steps.{Forth}
-use Rattle.tree.proofs.Paths.{from_back, path-at, from-drop}
+use Rattle.tree.proofs.Paths.{from_back}
 use Rattle.tree.proofs.Stepping.{forward}
-use Rattle.tree.proofs.Turning.{entry_other, unsound-other, Along, along-start, along-done, along-inside, along-end, along-answer, along-next}
+use Rattle.tree.proofs.Turning.{entry_other, unsound-other, along-start, along-end, along-answer, along-next}
 use Rattle.tree.proofs.steps.next.Goals as goal
-use Rattle.tree.proofs.steps.next.Goals.{After-over, In-loop-i}
+use Rattle.tree.proofs.steps.next.Goals.{After-over}
 
--- ---- a turn of the loop, at page `at` of the path
-
-abbrev at : In-loop-i → ℕ
-at c = c.loop-i.i - 1
-
-under : (c : In-loop-i) → c.loop-i.i ≡ suc (at c)
-under c = let l = c.loop-i-test.true in omega arith
-
-page : (c : In-loop-i) → at c < length c.loop-i.pages
-page c = let a = c.loop-i.invariant in omega (arith, under c, a.within, ap length a.pages)
-
-slot : (c : In-loop-i) → at c < length c.loop-i.slots
-slot c = let a = c.loop-i.invariant in omega (arith, under c, a.within, ap length a.slots, c.requires.path_in.even)
-
-few : (c : In-loop-i) → get_or c.loop-i.slots (at c) 0 ≤ most
-few c =
-    let a = c.loop-i.invariant in
-    rw a.slots (path-at _ c.args.pages.now c.args.slots.now c.requires.path_in (at c) (omega (arith, under c, a.within))).1
-
--- ---- after the step over the page's own entry
-
-abbrev turn : After-over → Turn
-turn c = c.before.before.before.before
-
-stepped : (c : After-over) (r : Step) → c.over.result ≡ r → let z = start (turn c) in
-    Forth z.args.pool.now (drop (at (turn c)) z.args.pages.now) (drop (at (turn c)) z.args.slots.now)
-    c.over.new.slots.1.1.1.0 c.over.new.slots.1.1.1.1.0 r
+-- a turn steps at page `loop-i.i - 1` of the path; this is after the step over that page's own entry
+stepped : (c : After-over) (r : Step) → c.over.result ≡ r → let a = c.args in let i = c.loop-i.i - 1 in
+    Forth a.pool.now (drop i a.pages.now) (drop i a.slots.now) c.over.new.pages c.over.new.slots r
 stepped c r e =
-    let z = start (turn c) in
+    let a = c.args in
+    let i = c.loop-i.i - 1 in
+    let l = c.loop-i-test.true in
     subst
-    (λ (r : Step).
-    Forth z.args.pool.now (drop (at (turn c)) z.args.pages.now) (drop (at (turn c)) z.args.slots.now)
-    c.over.new.slots.1.1.1.0 c.over.new.slots.1.1.1.1.0 r)
+    (λ (r : Step). Forth a.pool.now (drop i a.pages.now) (drop i a.slots.now) c.over.new.pages c.over.new.slots r)
     e
-    (along-next _ z.args.pages.now z.args.slots.now z.pre.1 (turn c).before.loop.invariant (under (turn c)) refl c.over.ensures)
+    (along-next _ a.pages.now a.slots.now c.requires.path_in c.loop-i.invariant (omega arith) refl c.over.ensures)
 
--- what is answered other than that it is at its end
-answered : (c : After-over) (r : Step) → (r ≡ step.End → ⊥) → c.over.result ≡ r → let z = start (turn c) in
-    Forth z.args.pool.now z.args.pages.now z.args.slots.now
-    (from_back (at (turn c)) (turn c).before.loop.pages c.over.new.slots.1.1.1.0)
-    (from_back (at (turn c)) (turn c).before.loop.slots c.over.new.slots.1.1.1.1.0) r
+-- what is answered there, other than that it is at its end, is the answer for the whole path
+answered : (c : After-over) (r : Step) → (r ≡ step.End → ⊥) → c.over.result ≡ r → let a = c.args in let i = c.loop-i.i - 1 in
+    Forth a.pool.now a.pages.now a.slots.now (from_back i c.loop-i.pages c.over.new.pages) (from_back i c.loop-i.slots c.over.new.slots) r
 answered c r n e =
-    let z = start (turn c) in
-    along-answer model.next forth forward _ z.args.pages.now z.args.slots.now z.pre.1 (turn c).before.loop.invariant (under (turn c)) n (stepped c r e)
-
--- ---- the needs
+    let a = c.args in
+    let l = c.loop-i-test.true in
+    along-answer model.next forth forward _ a.pages.now a.slots.now c.requires.path_in c.loop-i.invariant (omega arith) n (stepped c r e)
 
 pub loop-i-init : goal.loop-i-init
 loop-i-init c = let a = c.args in along-start model.next forth forward a.pool.now a.pages.now a.slots.now
 
-pub bounds-slots-i : goal.bounds-slots-i
-bounds-slots-i c = slot (goal.at.bounds-slots-i c).In-loop-i
-
-pub overflow_add-s : goal.overflow_add-s
-overflow_add-s c = let l = few (goal.at.overflow_add-s c).In-loop-i in omega arith
-
-pub offset_bounds-pages-i : goal.offset_bounds-pages-i
-offset_bounds-pages-i c = omega (arith, page (goal.at.offset_bounds-pages-i c).In-loop-i)
-
-pub slice_bounds-over-count : goal.slice_bounds-over-count
-slice_bounds-over-count c = omega (arith, page (goal.at.slice_bounds-over-count c).In-loop-i)
-
-pub offset_bounds-slots-i-in-loop-i : goal.offset_bounds-slots-i-in-loop-i
-offset_bounds-slots-i-in-loop-i c = omega (arith, page (goal.at.offset_bounds-slots-i-in-loop-i c).In-loop-i)
-
-pub slice_bounds-over-count-in-loop-i : goal.slice_bounds-over-count-in-loop-i
-slice_bounds-over-count-in-loop-i c = omega (arith, slot (goal.at.slice_bounds-over-count-in-loop-i c).In-loop-i)
-
-pub over-requires : goal.over-requires
-over-requires c =
-    let l = page (goal.at.over-requires c).In-loop-i in
-    let a = c.loop-i.invariant in record { today_in_bounds = (c.requires.today_in_bounds, rw (from-drop (at (goal.at.over-requires c).In-loop-i) c.loop-i.pages) (simp length-drop (omega arith)), omega arith); path_in = along-inside model.next forth forward _ c.args.pages.now c.args.slots.now c.requires.path_in a (under (goal.at.over-requires c).In-loop-i) }
-
-pub loop-i-smaller : goal.loop-i-smaller
-loop-i-smaller c = omega (arith, under (turn (goal.at.loop-i-smaller c).After-over))
-
 pub loop-i-preserved : goal.loop-i-preserved
 loop-i-preserved c =
-    let z = start (turn (goal.at.loop-i-preserved c).After-over) in
-    along-end model.next forth forward _ z.args.pages.now z.args.slots.now z.pre.1 (turn (goal.at.loop-i-preserved c).After-over).before.loop.invariant (under (turn (goal.at.loop-i-preserved c).After-over))
+    let a = c.args in
+    let l = c.loop-i-test.true in
+    along-end model.next forth forward _ a.pages.now a.slots.now c.requires.path_in c.loop-i.invariant (omega arith)
     (stepped (goal.at.loop-i-preserved c).After-over step.End c.in-End.is)
-
-pub shape_of-pages-in-Entry : goal.shape_of-pages-in-Entry
-shape_of-pages-in-Entry c =
-    (answered (goal.at.shape_of-pages-in-Entry c).After-over (step.Entry c.in-Entry.k c.in-Entry.v) (entry_other c.in-Entry.k c.in-Entry.v) c.in-Entry.is).pages
-
-pub shape_of-slots-in-Entry : goal.shape_of-slots-in-Entry
-shape_of-slots-in-Entry c =
-    (answered (goal.at.shape_of-slots-in-Entry c).After-over (step.Entry c.in-Entry.k c.in-Entry.v) (entry_other c.in-Entry.k c.in-Entry.v) c.in-Entry.is).slots
 
 pub returns-in-Entry : goal.returns-in-Entry
 returns-in-Entry c =
     answered (goal.at.returns-in-Entry c).After-over (step.Entry c.in-Entry.k c.in-Entry.v) (entry_other c.in-Entry.k c.in-Entry.v) c.in-Entry.is
 
-pub shape_of-pages-in-Unsound : goal.shape_of-pages-in-Unsound
-shape_of-pages-in-Unsound c = (answered (goal.at.shape_of-pages-in-Unsound c).After-over step.Unsound unsound-other c.in-Unsound.is).pages
-
-pub shape_of-slots-in-Unsound : goal.shape_of-slots-in-Unsound
-shape_of-slots-in-Unsound c = (answered (goal.at.shape_of-slots-in-Unsound c).After-over step.Unsound unsound-other c.in-Unsound.is).slots
-
 pub returns-in-Unsound : goal.returns-in-Unsound
 returns-in-Unsound c = answered (goal.at.returns-in-Unsound c).After-over step.Unsound unsound-other c.in-Unsound.is
-
-pub shape_of-pages : goal.shape_of-pages
-shape_of-pages c = ap length c.loop-i.invariant.pages
-
-pub shape_of-slots : goal.shape_of-slots
-shape_of-slots c = ap length c.loop-i.invariant.slots
-
-pub returns : goal.returns
-returns c =
-    let a = c.args in
-    let l = c.loop-i-test.false in
-    along-done model.next forth forward _ a.pages.now a.slots.now c.loop-i.invariant (omega arith)

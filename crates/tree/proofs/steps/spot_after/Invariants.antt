@@ -1,13 +1,6 @@
 -- `steps::spot_after` meets its contract. The loop's invariant: the pages that are left give what the whole path gives.
-use mathlib.Core.Path.{◌≡◌, sym, ◌∙◌}
-use Prim.Native.Nat.{ℕ, suc, ◌-◌, ◌<◌}
-use native.Mathlib.Omega.{arith}
-use lib.ListN.{length, get_or}
-use borrow.Author.Rules.{rules}
-use Rattle.tree.specs.declared.steps.Spot.TheVariants as spot
 use Rattle.tree.specs.Steps.{here_after}
-use Rattle.tree.proofs.Paths.{path-at}
-use Rattle.tree.proofs.Spots.{Left, left-all, left_less, after-lost, after_none, after-here}
+use Rattle.tree.proofs.Spots.{Left}
 use Rattle.tree.proofs.steps.spot_after.Given as goal
 
 abbrev pub invariant-loop-i : goal.invariant-loop-i

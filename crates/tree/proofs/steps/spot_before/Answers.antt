@@ -3,7 +3,6 @@ use mathlib.Core.Path.{◌≡◌, sym, ◌∙◌}
 use Prim.Native.Nat.{ℕ, suc, ◌-◌, ◌<◌}
 use native.Mathlib.Omega.{arith}
 use lib.ListN.{length, get_or}
-use borrow.Author.Rules.{rules}
 use Rattle.tree.specs.declared.steps.Spot.TheVariants as spot
 use Rattle.tree.specs.Steps.{here_before}
 use Rattle.tree.proofs.Paths.{path-at}

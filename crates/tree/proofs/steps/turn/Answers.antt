@@ -1,7 +1,6 @@
 -- `steps::turn` meets its contract: one law for each way out.
 use mathlib.Core.Path.{sym, ◌∙◌}
 use native.Mathlib.Omega.{arith}
-use borrow.Author.Rules.{rules}
 use Rattle.lend.proofs.Lent.{page-inside}
 use Rattle.tree.proofs.Searching.{below-inside}
 use Rattle.tree.proofs.Turning.{turn-leaf, turn-lost, turn-sought}

@@ -1,5 +1,4 @@
 -- `write::write` meets its contract: an entry read, and its value overwritten.
-use borrow.Author.Rules.{rules}
 use Rattle.tree.proofs.Writing.{writes}
 use Rattle.tree.proofs.write.write.Goals as goal
 

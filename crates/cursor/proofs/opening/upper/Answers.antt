@@ -1,0 +1,10 @@
+-- `opening::upper` meets its contract: the gap of the upper bound is document 01's.
+use Rattle.model.specs.Bound.{bound_of}
+use Rattle.map.specs.Bound.{upper_aim}
+use Rattle.cursor.proofs.Opens.{upper-meets}
+use Rattle.cursor.proofs.opening.upper.Goals as goal
+
+pub returns : goal.returns
+returns c =
+    let a = c.args in
+    upper-meets a.kind a.key (c.by.ensures a.kind (upper_aim (bound_of a.kind a.key)) c.upper.ensures)
