@@ -1,6 +1,6 @@
 -- `picture` ends. The measure of the recursion is the height, which is one less below.
 -- The measure of the loop: how many of the children are left, which are one more than the entries.
-use Rattle.std.proofs.Common.{◌+◌, ◌-◌, ◌≤◌}
+use Rattle.std.proofs.Common.{◌+◌, ◌-◌}
 use Rattle.pontoon.proofs.show.+picture.Given as goal
 
 abbrev pub decreases-picture : goal.decreases-picture
