@@ -1,4 +1,5 @@
-// The answers of the calls, as replies.
+// The answers of the calls, as replies: each the line that tells it, with its numbers. A refusal is the line of its
+// number, whichever call it came from.
 use crate::reply;
 use crate::reply::{Reply, plain, refused};
 use cursor::opening::Opened;

@@ -1,4 +1,5 @@
 // A command by what it asks: its words taken apart once, its numbers read. A tick is a key and a place is a value.
+// Words that are no command come to one too, which tells what is wrong with which of them.
 use crate::usage;
 use crate::usage::Shape;
 use crate::words::{count, is, is_number, number_at, word};
@@ -14,7 +15,8 @@ pub const UNBOUNDED: u64 = 2;
 
 const NO_BOUND: u64 = 3;
 
-// Besides the lines of the usage: no words at all; words that are no command; insert into a set; open at an upper bound.
+// Besides the lines of the usage: no words at all; words that are no command; insert into a set; open at an upper
+// bound.
 pub const HELP: usize = 24;
 
 pub const BAD: usize = 25;
@@ -23,7 +25,8 @@ pub const INSERT_TICK: usize = 26;
 
 pub const OPEN_UPPER: usize = 27;
 
-// The verb, which is the number of the command's line, and two numbers: a tick and a place, two ticks, a tick and a number of steps, pages and a kind. With one or two bounds, their kinds.
+// The verb, which is the number of the command's line, and two numbers: a tick and a place, two ticks, a tick and a
+// number of steps, pages and a kind. With one or two bounds, their kinds.
 #[derive(Clone, Copy)]
 pub struct Command {
     pub verb: usize,
@@ -202,7 +205,7 @@ fn is_read(line: &[u8], words: usize, numbers: usize, i: usize) -> bool {
     if words <= i {
         return true;
     }
-    if std::num::wrapping_add_usize(numbers, 2) <= i {
+    if numbers.wrapping_add(2) <= i {
         return true;
     }
     is_number(line, i)

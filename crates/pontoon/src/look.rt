@@ -9,6 +9,7 @@ use cursor::opening::Opened;
 use map::list::Listed;
 use map::refusal::SET;
 use model::{KIND, MOST, MOST_PAGES};
+use std::io;
 
 // The head's word 1: how many pages there are.
 pub const PAGES: usize = 1;
@@ -58,11 +59,11 @@ fn first(pool: &[u64], lower: u64, from: u64, upper: u64, to: u64) -> Step {
     }
 }
 
-fn print(pool: &[u64], tick: u64, place: u64) {
+fn print(rt: &impl Print, pool: &[u64], tick: u64, place: u64) -> io::Result<()> {
     if is_set(pool) {
-        say(b"tick #\n", tick, 0, 0);
+        say(rt, b"tick #\n", tick, 0, 0)
     } else {
-        say(b"tick #, place #\n", tick, place, 0);
+        say(rt, b"tick #, place #\n", tick, place, 0)
     }
 }
 
@@ -83,45 +84,52 @@ fn ended(answer: Step, entries: usize) -> Reply {
 }
 
 // The entries between two bounds, each the first after the one before it. No pool has as many as there are turns.
-pub fn list(pool: &[u64], lower: u64, from: u64, upper: u64, to: u64) -> Reply {
+pub fn list(
+    rt: &impl Print,
+    pool: &[u64],
+    lower: u64,
+    from: u64,
+    upper: u64,
+    to: u64,
+) -> io::Result<Reply> {
     let mut kind = lower;
     let mut after = from;
     let mut i: usize = 0;
     while i <= MOST * MOST_PAGES {
         let answer = first(pool, kind, after, upper, to);
         let Step::Entry(tick, place) = answer else {
-            return ended(answer, i);
+            return Ok(ended(answer, i));
         };
-        print(pool, tick, place);
+        print(rt, pool, tick, place)?;
         kind = EXCLUDED;
         after = tick;
         i += 1;
     }
-    listed(i)
+    Ok(listed(i))
 }
 
 // ---- scrub
 
 // So many steps; what ends them is the reply.
-fn steps(pool: &mut [u64], most: u64) -> Reply {
+fn steps(rt: &impl Print, pool: &mut [u64], most: u64) -> io::Result<Reply> {
     let mut i: u64 = 0;
     while i < most {
         let answer = cursor::next(pool);
         let Step::Entry(tick, place) = answer else {
-            return answer::stepped(answer, reply::ENTRY, reply::END);
+            return Ok(answer::stepped(answer, reply::ENTRY, reply::END));
         };
-        say(b"tick #, place #\n", tick, place, 0);
+        say(rt, b"tick #, place #\n", tick, place, 0)?;
         i += 1;
     }
-    plain(reply::TOLD)
+    Ok(plain(reply::TOLD))
 }
 
 // Steps from the lower bound of a tick, included.
-pub fn scrub(pool: &mut [u64], tick: u64, most: u64) -> Reply {
+pub fn scrub(rt: &impl Print, pool: &mut [u64], tick: u64, most: u64) -> io::Result<Reply> {
     match cursor::opening::lower(pool, INCLUDED, tick) {
-        Opened::Refused(why) => reply::refused(why),
+        Opened::Refused(why) => Ok(reply::refused(why)),
         Opened::Read(_) => {
-            let last = steps(pool, most);
+            let last = steps(rt, pool, most);
             cursor::close(pool);
             last
         }

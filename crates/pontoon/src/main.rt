@@ -1,4 +1,5 @@
-// The command `pontoon`: a pool kept in a file, for the bench. This file takes the words and hands them on: to the sample, which works in memory, or to the commands on a file.
+// The command `pontoon`: a pool kept in a file, for the bench. This file takes the words and hands them on: to the
+// sample, which works in memory, or to the commands on a file.
 #![tactic(auto)]
 
 pub mod answer;
@@ -19,26 +20,33 @@ pub mod words;
 use crate::command::{BAD, HELP};
 use crate::usage::{SAMPLE, USAGE};
 use crate::words::{Gathered, LINE};
+use std::io;
+use std::rt::Files;
 
-fn begin(usage: &[u8], line: &[u8]) {
+fn begin(rt: &(impl Files + Print), err: &impl Print, usage: &[u8], line: &[u8]) -> io::Result<()> {
     let command = command::parse(usage, line);
     let verb = command.verb;
     match verb {
-        HELP => usage::help(usage),
-        SAMPLE => sample::tour(usage),
-        BAD => complain::about(usage, line, command.a, command.b),
-        _ => file::act(line, command),
+        HELP => usage::help(rt, usage),
+        SAMPLE => sample::tour(rt, usage),
+        BAD => {
+            complain::about(err, usage, line, command.a, command.b);
+            Ok(())
+        }
+        _ => file::act(rt, err, line, command),
     }
 }
 
-fn main() {
+// The exit status is 0 in any case, also where standard output takes nothing more; the command then ends.
+fn main(rt: HostRuntime) {
+    let err = rt.stderr();
     let mut line = [0u8; LINE];
-    match words::gather(&mut line) {
+    match words::gather(&rt, &mut line) {
         Gathered::Bytes(n) => {
             if n <= LINE {
-                begin(&USAGE, &line[0..n]);
+                let _ = begin(&rt, &err, &USAGE, &line[0..n]);
             }
         }
-        Gathered::TooLong => complain::too_long(),
+        Gathered::TooLong => complain::too_long(&err),
     }
 }

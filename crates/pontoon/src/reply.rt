@@ -1,7 +1,9 @@
-// What a command comes to: a line of the book, with its numbers. The lines are in order: nothing, the refusals by document 01's numbers, what changes the pool, what does not.
+// What a command comes to: a line of the book, with its numbers. The lines are in order: nothing, the refusals by
+// document 01's numbers, what changes the pool, what does not.
 use crate::say::{say, write};
 use crate::words::word;
 use map::refusal::Refusal;
+use std::io;
 
 const BOOK: [u8; 754] = *b"
 
@@ -122,14 +124,14 @@ pub fn is_change(reply: Reply) -> bool {
     }
 }
 
-fn print(book: &[u8], reply: Reply) {
+fn print(rt: &impl Print, book: &[u8], reply: Reply) -> io::Result<()> {
     if reply.0 == TOLD {
-        return;
+        return Ok(());
     }
-    say(word(book, reply.0), reply.1, reply.2, 0);
-    write(b"\n");
+    say(rt, word(book, reply.0), reply.1, reply.2, 0)?;
+    write(rt, b"\n")
 }
 
-pub fn tell(reply: Reply) {
-    print(&BOOK, reply);
+pub fn tell(rt: &impl Print, reply: Reply) -> io::Result<()> {
+    print(rt, &BOOK, reply)
 }

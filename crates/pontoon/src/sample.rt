@@ -1,4 +1,5 @@
-// The sample: the same commands on pools in memory, as they would be typed, and what each says. A burst of 24 frames in a pool of six pages, and a pool of one page that is soon full.
+// The sample: the same commands on pools in memory, as they would be typed, and what each says. A burst of 24 frames
+// in a pool of six pages, and a pool of one page that is soon full.
 use crate::command::parse;
 use crate::reply;
 use crate::reply::{Reply, tell};
@@ -6,13 +7,15 @@ use crate::run::run;
 use crate::say::write;
 use crate::words::{byte, count, is, word};
 use model::{FIRST_PAGE, PAGE_WORDS};
+use std::io;
 
 // Words of the two pools.
 const SAMPLE: usize = FIRST_PAGE + 6 * PAGE_WORDS;
 
 const TINY: usize = FIRST_PAGE + PAGE_WORDS;
 
-// The commands. After a dot stands one that is not shown: it has to say that its tick is new. A line in brackets is a remark.
+// The commands. After a dot stands one that is not shown: it has to say that its tick is new. A line in brackets is a
+// remark.
 const SCRIPT: [u8; 1237] = *b"
  make sample 6
  insert sample 1000 0
@@ -70,53 +73,55 @@ const SCRIPT: [u8; 1237] = *b"
  show tiny";
 
 // A command on the pool that it names. The small one begins in the same words once the other is done with.
-fn act(usage: &[u8], words: &mut [u64], line: &[u8]) -> Reply {
+fn act(rt: &impl Print, usage: &[u8], words: &mut [u64], line: &[u8]) -> io::Result<Reply> {
     let mut n = words.len();
     if is(word(line, 1), b"tiny") {
         n = TINY;
     }
     if n <= words.len() {
-        return run(&mut words[0..n], parse(usage, line));
+        return run(rt, &mut words[0..n], parse(usage, line));
     }
-    reply::plain(reply::TOLD)
+    Ok(reply::plain(reply::TOLD))
 }
 
-fn shown(usage: &[u8], words: &mut [u64], line: &[u8]) {
-    write(b"$ pontoon");
-    write(line);
-    write(b"\n");
-    tell(act(usage, words, line));
+fn shown(rt: &impl Print, usage: &[u8], words: &mut [u64], line: &[u8]) -> io::Result<()> {
+    write(rt, b"$ pontoon")?;
+    write(rt, line)?;
+    write(rt, b"\n")?;
+    tell(rt, act(rt, usage, words, line)?)
 }
 
 // Nothing is shown of a tick that is new.
-fn hidden(usage: &[u8], words: &mut [u64], line: &[u8]) {
-    let reply = act(usage, words, line);
+fn hidden(rt: &impl Print, usage: &[u8], words: &mut [u64], line: &[u8]) -> io::Result<()> {
+    let reply = act(rt, usage, words, line)?;
     if reply.0 != reply::NEW {
-        tell(reply);
+        tell(rt, reply)?;
     }
+    Ok(())
 }
 
-fn turn(usage: &[u8], words: &mut [u64], line: &[u8]) {
+fn turn(rt: &impl Print, usage: &[u8], words: &mut [u64], line: &[u8]) -> io::Result<()> {
     match byte(line, 0) {
-        b' ' => shown(usage, words, line),
-        b'.' => hidden(usage, words, word(line, 0)),
+        b' ' => shown(rt, usage, words, line),
+        b'.' => hidden(rt, usage, words, word(line, 0)),
         _ => {
-            write(line);
-            write(b"\n");
+            write(rt, line)?;
+            write(rt, b"\n")
         }
     }
 }
 
-fn play(usage: &[u8], script: &[u8], words: &mut [u64]) {
+fn play(rt: &impl Print, usage: &[u8], script: &[u8], words: &mut [u64]) -> io::Result<()> {
     let n = count(script);
     let mut i: usize = 0;
     while i < n {
-        turn(usage, words, word(script, i));
+        turn(rt, usage, words, word(script, i))?;
         i += 1;
     }
+    Ok(())
 }
 
-pub fn tour(usage: &[u8]) {
+pub fn tour(rt: &impl Print, usage: &[u8]) -> io::Result<()> {
     let mut words = [0u64; SAMPLE];
-    play(usage, &SCRIPT, &mut words);
+    play(rt, usage, &SCRIPT, &mut words)
 }

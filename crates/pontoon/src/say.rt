@@ -1,8 +1,9 @@
-// Words with numbers in them: in a text a # stands for a number, and a % for an s where the number before it is not 1.
+// Words with numbers in them: in a text a # stands for a number, and a % for an s where the number before it is not
+// 1. They go to whatever prints.
 ghost use Rattle.std.specs.Prelude.{◌≤◌, length};
 
 use crate::words::byte;
-use libc::STDOUT_FILENO;
+use std::io;
 
 fn is_mark(byte: u8) -> bool {
     match byte {
@@ -36,37 +37,38 @@ fn number(k: usize, a: u64, b: u64, c: u64) -> u64 {
 }
 
 // What a mark stands for, after `k` numbers; how many there are then.
-fn fill(out: i32, mark: u8, k: usize, a: u64, b: u64, c: u64) -> usize {
+fn fill(out: &impl Print, mark: u8, k: usize, a: u64, b: u64, c: u64) -> io::Result<usize> {
     if mark == b'#' {
-        let next = std::num::wrapping_add_usize(k, 1);
-        io::print_decimal(out, number(next, a, b, c));
-        return next;
+        let next = k.wrapping_add(1);
+        out.print(number(next, a, b, c))?;
+        return Ok(next);
     }
     if mark == b'%' {
         if number(k, a, b, c) != 1 {
-            io::write_all(out, b"s");
+            out.write_all(b"s")?;
         }
     }
-    k
+    Ok(k)
 }
 
 // A text with up to three numbers.
-pub fn put(out: i32, text: &[u8], a: u64, b: u64, c: u64) {
+pub fn put(out: &impl Print, text: &[u8], a: u64, b: u64, c: u64) -> io::Result<()> {
     let mut k: usize = 0;
     let mut at: usize = 0;
     while at < text.len() {
         let e = mark(text, at);
-        io::write_all(out, &text[at..e]);
-        k = fill(out, byte(text, e), k, a, b, c);
+        out.write_all(&text[at..e])?;
+        k = fill(out, byte(text, e), k, a, b, c)?;
         at = e + 1;
     }
+    Ok(())
 }
 
-pub fn write(text: &[u8]) {
-    io::write_all(STDOUT_FILENO, text);
+pub fn write(rt: &impl Print, text: &[u8]) -> io::Result<()> {
+    rt.write_all(text)
 }
 
 // On standard output.
-pub fn say(text: &[u8], a: u64, b: u64, c: u64) {
-    put(STDOUT_FILENO, text, a, b, c);
+pub fn say(rt: &impl Print, text: &[u8], a: u64, b: u64, c: u64) -> io::Result<()> {
+    put(rt, text, a, b, c)
 }

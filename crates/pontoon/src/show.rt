@@ -1,5 +1,6 @@
-// The tree as a picture in text: a line a page, from the root down, a level deeper for each indent; then the free pages. The walk follows children with one level less at each step.
-ghost use Rattle.std.specs.Prelude.{◌≡◌, ◌≤◌, true};
+// The tree as a picture in text: a line a page, from the root down, a level deeper for each indent; then the free
+// pages. The walk follows children with one level less at each step.
+ghost use Rattle.std.specs.Prelude.{◌≡◌, ◌≤◌, true, IfOk};
 ghost use Rattle.model.specs.Head.{headed};
 ghost use Rattle.lend.specs.Pages.{most, Inside};
 ghost use Rattle.lend.specs.Touches.{Sized};
@@ -13,6 +14,7 @@ use map::pool::Checked;
 use map::refusal::Refusal;
 use model::{FIRST_PAGE, HEAD_WORDS, MOST, MOST_PAGES, ROOT};
 use pagemap::Lowest;
+use std::io;
 use tree::search;
 use tree::search::Below;
 
@@ -22,55 +24,63 @@ const LINES: usize = 64;
 // ---- a line
 
 // The first bytes of a text.
-fn some(text: &[u8], n: usize) {
+fn some(rt: &impl Print, text: &[u8], n: usize) -> io::Result<()> {
     if n <= text.len() {
-        write(&text[0..n]);
+        write(rt, &text[0..n])?;
     }
+    Ok(())
 }
 
 // Nine slots, of which the first `n` are filled.
-fn bar(n: usize) {
-    some(b"#########", n);
-    some(b"---------", std::num::wrapping_sub_usize(MOST, n));
+fn bar(rt: &impl Print, n: usize) -> io::Result<()> {
+    some(rt, b"#########", n)?;
+    some(rt, b"---------", MOST.wrapping_sub(n))
 }
 
 // What a page is shown by: its number, a bar, and its first and last tick.
-fn page(pool: &[u64], p: usize, n: usize)
+fn page(rt: &impl Print, pool: &[u64], p: usize, n: usize) -> io::Result<()>
     requires { Inside p pool.now }
 {
     if n == 0 {
-        return;
+        return Ok(());
     }
     if MOST < n {
-        return;
+        return Ok(());
     }
     let first = pages::entry_at(pool, p, 0);
     let last = pages::entry_at(pool, p, n - 1);
-    say(b"page # [", p as u64, 0, 0);
-    bar(n);
-    say(b"] # of 9, ticks # to #\n", n as u64, first.key, last.key);
+    say(rt, b"page # [", p as u64, 0, 0)?;
+    bar(rt, n)?;
+    say(
+        rt,
+        b"] # of 9, ticks # to #\n",
+        n as u64,
+        first.key,
+        last.key,
+    )
 }
 
-// The line of page `p`, of height `h` under a root's; how many entries the page has. A number that is no page's has no line.
-fn line(pool: &[u64], p: usize, h: usize, root: usize) -> usize
-    ensures { result ≤ most }
+// The line of page `p`, of height `h` under a root's; how many entries the page has. A number that is no page's has no
+// line.
+fn line(rt: &impl Print, pool: &[u64], p: usize, h: usize, root: usize) -> io::Result<usize>
+    ensures { IfOk result (λ n. n ≤ most) }
 {
     if MOST_PAGES <= p {
-        return 0;
+        return Ok(0);
     }
     if pool.len() < model::first_word(p + 1) {
-        return 0;
+        return Ok(0);
     }
     let n = pages::count(pool, p);
     if MOST < n {
-        return 0;
+        return Ok(0);
     }
-    let deep = std::num::wrapping_sub_usize(root, h);
+    let deep = root.wrapping_sub(h);
     if deep <= 5 {
-        some(b"          ", 2 * deep);
+        some(rt, b"          ", 2 * deep)?;
     }
-    page(pool, p, n);
-    n
+    page(rt, pool, p, n)?;
+    Ok(n)
 }
 
 // ---- the tree
@@ -90,75 +100,89 @@ fn child(pool: &[u64], p: usize, i: usize) -> usize {
 }
 
 // Page `p` of height `h` and all below it, where `shown` pages have a line already; how many have one then.
-fn picture(pool: &[u64], p: usize, h: usize, root: usize, shown: usize) -> usize {
+fn picture(
+    rt: &impl Print,
+    pool: &[u64],
+    p: usize,
+    h: usize,
+    root: usize,
+    shown: usize,
+) -> io::Result<usize> {
     if LINES <= shown {
-        return shown;
+        return Ok(shown);
     }
-    let n = line(pool, p, h, root);
+    let n = line(rt, pool, p, h, root)?;
     let mut lines = shown + 1;
     let mut i: usize = 0;
     while i <= n {
         if h == 0 {
-            return lines;
+            return Ok(lines);
         }
-        lines = picture(pool, child(pool, p, i), h - 1, root, lines);
+        lines = picture(rt, pool, child(pool, p, i), h - 1, root, lines)?;
         i += 1;
     }
-    lines
+    Ok(lines)
 }
 
 // From the root down; of a pool without levels there is nothing.
-fn tree(pool: &[u64]) -> usize
+fn tree(rt: &impl Print, pool: &[u64]) -> io::Result<usize>
     requires { headed pool.now ≡ true }
 {
     let levels = lend::head::levels(pool);
     let root = word(pool, ROOT) as usize;
     if levels == 0 {
-        return 0;
+        return Ok(0);
     }
     if root == 0 {
-        return 0;
+        return Ok(0);
     }
-    picture(pool, root - 1, levels - 1, levels - 1, 0)
+    picture(rt, pool, root - 1, levels - 1, levels - 1, 0)
 }
 
 // ---- the pool
 
 // The pages that are past the lines.
-fn more(shown: usize, taken: usize) {
+fn more(rt: &impl Print, shown: usize, taken: usize) -> io::Result<()> {
     if shown < taken {
-        say(b"and # more page%\n", (taken - shown) as u64, 0, 0);
+        say(rt, b"and # more page%\n", (taken - shown) as u64, 0, 0)?;
     }
+    Ok(())
 }
 
 // The pages that are free.
-fn free(pool: &[u64], taken: usize)
+fn free(rt: &impl Print, pool: &[u64], taken: usize) -> io::Result<()>
     requires { Sized pool.now }
 {
     let all = bits::pages_in(pool);
-    let left = std::num::wrapping_sub_usize(all, taken) as u64;
+    let left = all.wrapping_sub(taken) as u64;
     match pagemap::lowest_free(&pool[HEAD_WORDS..FIRST_PAGE], all) {
-        Lowest::Page(p) => say(b"free pages: #, the lowest is page #\n", left, p as u64, 0),
-        Lowest::None => write(b"free pages: none\n"),
+        Lowest::Page(p) => say(
+            rt,
+            b"free pages: #, the lowest is page #\n",
+            left,
+            p as u64,
+            0,
+        ),
+        Lowest::None => write(rt, b"free pages: none\n"),
     }
 }
 
-fn sound(pool: &[u64]) -> Reply
+fn sound(rt: &impl Print, pool: &[u64]) -> io::Result<Reply>
     requires { headed pool.now ≡ true }
 {
     let taken = bits::taken(pool);
-    more(tree(pool), taken);
-    free(pool, taken);
-    reply::plain(reply::TOLD)
+    more(rt, tree(rt, pool)?, taken)?;
+    free(rt, pool, taken)?;
+    Ok(reply::plain(reply::TOLD))
 }
 
 // A pool that is not sound has no picture.
-pub fn show(pool: &[u64]) -> Reply {
+pub fn show(rt: &impl Print, pool: &[u64]) -> io::Result<Reply> {
     if !lend::head::fits(pool) {
-        return reply::refused(Refusal::Unfit);
+        return Ok(reply::refused(Refusal::Unfit));
     }
     match map::pool::check(pool) {
-        Checked::Sound => sound(pool),
-        Checked::Unsound => stats::unsound(pool),
+        Checked::Sound => sound(rt, pool),
+        Checked::Unsound => stats::unsound(rt, pool),
     }
 }

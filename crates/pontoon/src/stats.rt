@@ -1,4 +1,5 @@
-// What there is to say of a whole pool: its kind, entries, levels and pages, how full they are, the room left, and where the cursor is. Of a pool that is not sound, what its head says.
+// What there is to say of a whole pool: its kind, entries, levels and pages, how full they are, the room left, and
+// where the cursor is. Of a pool that is not sound, what its head says.
 ghost use Rattle.std.specs.Prelude.{◌≡◌, true};
 ghost use Rattle.model.specs.Head.{headed};
 
@@ -9,6 +10,7 @@ use crate::say::{say, write};
 use map::pool::Checked;
 use map::refusal::Refusal;
 use model::{AFTER, COUNT, KEY, LEAST, LEVELS, MOST, MOST_PAGES, OPEN};
+use std::io;
 
 // ---- numbers
 
@@ -36,84 +38,95 @@ fn left(number: u64, used: u64) -> u64 {
 
 // ---- lines
 
-fn kind(pool: &[u64]) {
+fn kind(rt: &impl Print, pool: &[u64]) -> io::Result<()> {
     if is_set(pool) {
-        write(b"kind     set\n");
+        write(rt, b"kind     set\n")
     } else {
-        write(b"kind     map\n");
+        write(rt, b"kind     map\n")
     }
 }
 
-fn cursor(pool: &[u64]) {
+fn cursor(rt: &impl Print, pool: &[u64]) -> io::Result<()> {
     if word(pool, OPEN) == 0 {
-        write(b"cursor   closed\n");
+        write(rt, b"cursor   closed\n")
     } else if word(pool, AFTER) == 0 {
-        write(b"cursor   open, at the start\n");
+        write(rt, b"cursor   open, at the start\n")
     } else {
-        say(b"cursor   open, after tick #\n", word(pool, KEY), 0, 0);
+        say(rt, b"cursor   open, after tick #\n", word(pool, KEY), 0, 0)
     }
 }
 
-// The new ticks that fit whichever they are, for no insert is refused for room while there are at most 4 entries a page; and how many could at most, for a page holds 9.
-fn room(entries: u64, pages: u64) {
+// The new ticks that fit whichever they are, for no insert is refused for room while there are at most 4 entries a
+// page; and how many could at most, for a page holds 9.
+fn room(rt: &impl Print, entries: u64, pages: u64) -> io::Result<()> {
     if (MOST_PAGES as u64) < pages {
-        return;
+        return Ok(());
     }
     say(
+        rt,
         b"room     # new tick% for sure, at most #\n",
         left(LEAST as u64 * pages + 1, entries),
         left(MOST as u64 * pages, entries),
         0,
-    );
+    )
 }
 
 // ---- the pool
 
 // What the head says and no more, for the tree of a pool that is not sound is not walked.
-pub fn unsound(pool: &[u64]) -> Reply {
-    write(b"not sound; its head says:\n");
-    kind(pool);
+pub fn unsound(rt: &impl Print, pool: &[u64]) -> io::Result<Reply> {
+    write(rt, b"not sound; its head says:\n")?;
+    kind(rt, pool)?;
     say(
+        rt,
         b"entries  #\nlevels   #\npages    #\n",
         word(pool, COUNT),
         word(pool, LEVELS),
         word(pool, PAGES),
-    );
-    cursor(pool);
-    reply::plain(reply::TOLD)
+    )?;
+    cursor(rt, pool)?;
+    Ok(reply::plain(reply::TOLD))
 }
 
-fn sound(pool: &[u64]) -> Reply
+fn sound(rt: &impl Print, pool: &[u64]) -> io::Result<Reply>
     requires { headed pool.now ≡ true }
 {
     let taken = lend::bits::taken(pool) as u64;
     let pages = word(pool, PAGES);
     let entries = word(pool, COUNT);
-    kind(pool);
-    say(b"entries  #\nlevels   #\n", entries, word(pool, LEVELS), 0);
+    kind(rt, pool)?;
     say(
+        rt,
+        b"entries  #\nlevels   #\n",
+        entries,
+        word(pool, LEVELS),
+        0,
+    )?;
+    say(
+        rt,
         b"pages    #: # taken, # free\n",
         pages,
         taken,
         left(pages, taken),
-    );
+    )?;
     say(
+        rt,
         b"fill     # percent of a page in the mean\n",
         percent(entries, taken),
         0,
         0,
-    );
-    room(entries, pages);
-    cursor(pool);
-    reply::plain(reply::TOLD)
+    )?;
+    room(rt, entries, pages)?;
+    cursor(rt, pool)?;
+    Ok(reply::plain(reply::TOLD))
 }
 
-pub fn stats(pool: &[u64]) -> Reply {
+pub fn stats(rt: &impl Print, pool: &[u64]) -> io::Result<Reply> {
     if !lend::head::fits(pool) {
-        return reply::refused(Refusal::Unfit);
+        return Ok(reply::refused(Refusal::Unfit));
     }
     match map::pool::check(pool) {
-        Checked::Sound => sound(pool),
-        Checked::Unsound => unsound(pool),
+        Checked::Sound => sound(rt, pool),
+        Checked::Unsound => unsound(rt, pool),
     }
 }

@@ -1,6 +1,7 @@
-// How each command is written, once: a line for each, by whose first word the command is known. And how many words and numbers go with it.
+// How each command is written, once: a line for each, by whose first word the command is known. And how many words
+// and numbers go with it.
 use crate::words::{LINE, count, is, word};
-use libc::STDOUT_FILENO;
+use std::io;
 
 pub const USAGE: [u8; 1758] = *b"
  sample                         a tour, on pools in memory
@@ -83,7 +84,8 @@ pub const SCRUB: usize = 22;
 
 pub const UNKNOWN: usize = 23;
 
-// The fewest words of a command, its own among them, and the most; and how many of those after the file's name are numbers and nothing else.
+// The fewest words of a command, its own among them, and the most; and how many of those after the file's name are
+// numbers and nothing else.
 #[derive(Clone, Copy)]
 pub struct Shape(pub usize, pub usize, pub usize);
 
@@ -116,15 +118,15 @@ pub fn row(usage: &[u8], name: &[u8]) -> usize {
 }
 
 // How a command is written.
-pub fn print(out: i32, usage: &[u8], name: &[u8]) {
-    io::write_all(out, b"usage: pontoon");
-    io::write_all(out, word(usage, row(usage, name)));
-    io::write_all(out, b"\n");
+pub fn print(out: &impl Print, usage: &[u8], name: &[u8]) -> io::Result<()> {
+    out.write_all(b"usage: pontoon")?;
+    out.write_all(word(usage, row(usage, name)))?;
+    out.write_all(b"\n")
 }
 
 // How all are.
-pub fn help(usage: &[u8]) {
-    io::write_all(STDOUT_FILENO, b"usage: pontoon");
-    io::write_all(STDOUT_FILENO, usage);
-    io::write_all(STDOUT_FILENO, &ABOUT);
+pub fn help(rt: &impl Print, usage: &[u8]) -> io::Result<()> {
+    rt.write_all(b"usage: pontoon")?;
+    rt.write_all(usage)?;
+    rt.write_all(&ABOUT)
 }

@@ -1,6 +1,9 @@
-// The words of a command in one line of bytes. The line's first byte stands before each word: 0 in the program's arguments, whose names of files may have spaces in them, and a space in text.
-// Lines of a text are its words likewise, where it begins with a line's end. And numbers by their figures.
+// The words of a command in one line of bytes. The line's first byte stands before each word: 0 in the program's
+// arguments, whose names of files may have spaces in them, and a space in text. Lines of a text are its words
+// likewise, where it begins with a line's end. And numbers by their figures.
 ghost use Rattle.std.specs.Prelude.{◌≤◌, length};
+
+use std::env::{Env, FillError};
 
 // Bytes of the longest line: two names of files and some numbers.
 pub const LINE: usize = 12288;
@@ -40,27 +43,37 @@ pub fn put(bytes: &mut [u8], i: usize, byte: u8) {
 
 // ---- a line from the program's arguments
 
+// How many arguments there are, the program's own name among them.
+fn arg_count(rt: &impl Env) -> usize {
+    let mut first = [0u8; 1];
+    for i in 0..usize::MAX {
+        if let Err(FillError::NotPresent) = rt.arg(i, &mut first) {
+            return i;
+        }
+    }
+    usize::MAX
+}
+
 // Argument `i` at a place of the line, and where the next one goes; the same place where there is no room for it.
-fn add(line: &mut [u8], at: usize, i: usize) -> usize {
+fn add(rt: &impl Env, line: &mut [u8], at: usize, i: usize) -> usize {
     if line.len() <= at {
         return at;
     }
     put(line, at, 0);
     let from = at + 1;
-    let n = os::arg(i, &mut line[from..]);
-    if os::errno() != 0 {
-        return at;
+    match rt.arg(i, &mut line[from..]) {
+        Ok(n) => from.wrapping_add(n),
+        Err(_) => at,
     }
-    std::num::wrapping_add_usize(from, n)
 }
 
 // All arguments but the program's own name.
-pub fn gather(line: &mut [u8]) -> Gathered {
-    let count = os::arg_count();
+pub fn gather(rt: &impl Env, line: &mut [u8]) -> Gathered {
+    let count = arg_count(rt);
     let mut at: usize = 0;
     let mut i: usize = 1;
     while i < count {
-        let next = add(line, at, i);
+        let next = add(rt, line, at, i);
         if next == at {
             return Gathered::TooLong;
         }
@@ -78,7 +91,7 @@ pub fn count(line: &[u8]) -> usize {
     let mut i: usize = 0;
     while i < line.len() {
         if line[i] == byte(line, 0) {
-            n = std::num::wrapping_add_usize(n, 1);
+            n = n.wrapping_add(1);
         }
         i += 1;
     }

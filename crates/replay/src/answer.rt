@@ -1,4 +1,5 @@
-// Our answers in the list's words, and whether a line tells the same.
+// Our answers in the list's words, and whether a line tells the same. A refusal, or a line that is not understood, is
+// never the same.
 use crate::text::{Word, byte, end, number, same};
 
 #[derive(Clone, Copy)]
@@ -27,7 +28,7 @@ pub fn past(text: &[u8], at: usize, n: u64) -> usize {
     if byte(text, at) != b' ' {
         return NOWHERE;
     }
-    let word = std::num::wrapping_add_usize(at, 1);
+    let word = at.wrapping_add(1);
     let Word::Number(m) = number(text, word) else {
         return NOWHERE;
     };
@@ -44,7 +45,7 @@ pub fn ended(text: &[u8], at: usize) -> bool {
 
 // Whether the last word of the line is this one.
 fn last(text: &[u8], at: usize, word: &[u8]) -> bool {
-    let next = std::num::wrapping_add_usize(at, 1);
+    let next = at.wrapping_add(1);
     if !same(text, next, word, 0) {
         return false;
     }

@@ -1,4 +1,5 @@
-// The calls of the list, by name, each made on the pool.
+// The calls of the list, by name, each made on the pool. How many numbers a line gives comes first; of those with one
+// number a set has its own.
 use crate::answer::Ours;
 use crate::line::Line;
 use crate::lists;

@@ -1,5 +1,5 @@
-// A line of the list: the place of its call's name, the numbers that the call is given, and the place where std's answer begins. A bound's kind is document 01's number, and Unbounded has
-// 0 for its key.
+// A line of the list: the place of its call's name, the numbers that the call is given, and the place where std's
+// answer begins. A bound's kind is document 01's number, and Unbounded has 0 for its key.
 use crate::text::{Word, byte, end, number, same, which};
 
 #[derive(Clone, Copy)]
@@ -26,7 +26,7 @@ impl Line {
             2 => l.c = n,
             3.. => l.d = n,
         }
-        l.count = std::num::wrapping_add_u64(count, 1);
+        l.count = count.wrapping_add(1);
         l
     }
 
@@ -52,7 +52,7 @@ impl Line {
         if byte(text, at) != b' ' {
             return self;
         }
-        let word = std::num::wrapping_add_usize(at, 1);
+        let word = at.wrapping_add(1);
         if byte(text, word) == b':' {
             return self;
         }
@@ -70,11 +70,11 @@ impl Line {
         if byte(text, at) == b'\n' {
             return self;
         }
-        if !same(text, std::num::wrapping_add_usize(at, 1), b":", 0) {
+        if !same(text, at.wrapping_add(1), b":", 0) {
             return self.unread();
         }
         let mut l = self;
-        l.at = std::num::wrapping_add_usize(at, 2);
+        l.at = at.wrapping_add(2);
         l
     }
 }

@@ -1,4 +1,5 @@
-// Lists: how many entries there are between two bounds, and each, compared with the line from where its answer begins.
+// Lists: how many entries there are between two bounds, and each, compared with the line from where its answer
+// begins. A map's list is of pairs, of keys or of values; a set's is of keys.
 use crate::answer::{Ours, ended, past};
 use crate::line::Line;
 use map::list::Listed;

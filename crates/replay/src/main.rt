@@ -1,5 +1,7 @@
-// The replay: calls that were recorded on Rust's own BTreeMap, BTreeSet and CursorMut, with std's answers (rust/record/record.rs made the list, with rustc 1.95.0), are made again on a pool
-// of 253 pages, and every answer is compared. A line that is not understood differs, and so does a refusal, but for insert after's 6 where std answers UnorderedKeyError.
+// The replay: calls that were recorded on Rust's own BTreeMap, BTreeSet and CursorMut, with std's answers
+// (rust/record/record.rs made the list, with rustc 1.95.0), are made again on a pool of 253 pages, and every answer is
+// compared. A line that is not understood differs, and so does a refusal, but for insert after's 6 where std answers
+// UnorderedKeyError.
 #![tactic(auto)]
 
 pub mod answer;
@@ -11,8 +13,8 @@ pub mod text;
 
 use crate::tally::FIGURES;
 use crate::text::{end, which};
-use libc::STDIN_FILENO;
 use map::refusal::SET;
+use std::io;
 use table::UNTOUCHED;
 
 // Bytes of the longest list, and words of the pool.
@@ -21,41 +23,55 @@ const MOST: usize = 163840;
 const WORDS: usize = 8192;
 
 // A line: a new map or set, or a call.
-fn replay_line(pool: &mut [u64], text: &[u8], at: usize, tally: &mut [u64; FIGURES]) {
+fn replay_line(
+    rt: &impl Print,
+    pool: &mut [u64],
+    text: &[u8],
+    at: usize,
+    tally: &mut [u64; FIGURES],
+) -> io::Result<()> {
     let kind = which(text, at, b"map set");
     if kind <= SET {
-        tally::section(text, at, tally);
+        tally::section(rt, text, at, tally)?;
         map::pool::make(pool, kind);
-        return;
+        return Ok(());
     }
     let line = line::read(text, at);
     let ours = calls::call(pool, text, line);
     tally::count(text, at, answer::tells(text, line.at, ours), tally);
     tally::look(pool, tally);
+    Ok(())
 }
 
 // Every line.
-fn replay(pool: &mut [u64], text: &[u8], tally: &mut [u64; FIGURES]) {
+fn replay(
+    rt: &impl Print,
+    pool: &mut [u64],
+    text: &[u8],
+    tally: &mut [u64; FIGURES],
+) -> io::Result<()> {
     let mut at: usize = 0;
     while at < text.len() {
-        replay_line(pool, text, at, tally);
+        replay_line(rt, pool, text, at, tally)?;
         let newline = end(text, at, b'\n');
         if text.len() <= newline {
-            return;
+            return Ok(());
         }
         at = newline + 1;
     }
+    Ok(())
 }
 
-fn replay_all(text: &[u8]) {
+fn replay_all(rt: &impl Print, text: &[u8]) -> io::Result<()> {
     let mut pool = [UNTOUCHED; WORDS];
     let mut tally = [0u64; FIGURES];
-    replay(&mut pool, text, &mut tally);
-    tally::report(text, &mut tally);
+    replay(rt, &mut pool, text, &mut tally)?;
+    tally::report(rt, text, &mut tally)
 }
 
-fn main() {
+fn main(rt: HostRuntime) -> io::Result<()> {
     let mut space = [0u8; MOST];
-    let n = io::read_full(STDIN_FILENO, &mut space);
-    replay_all(&space[..n]);
+    let mut input = rt.reader();
+    let n = table::read_full(&mut input, &mut space)?;
+    replay_all(&rt, &space[..n])
 }

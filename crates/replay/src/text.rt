@@ -1,4 +1,5 @@
-// The list's text: words, which end at a space or at the line's end, and numbers.
+// The list's text: words, which end at a space or at the line's end, and numbers. Past its end every byte is 0, which
+// ends a word too.
 ghost use Rattle.std.specs.Prelude.{◌≤◌};
 
 // A byte of the text; 0 past its end.
@@ -29,7 +30,7 @@ pub fn same(text: &[u8], at: usize, other: &[u8], from: usize) -> bool {
             return false;
         }
         i += 1;
-        j = std::num::wrapping_add_usize(j, 1);
+        j = j.wrapping_add(1);
     }
     ends(byte(other, j))
 }
@@ -67,7 +68,7 @@ pub fn which(text: &[u8], at: usize, names: &[u8]) -> u64 {
         if names.len() <= space {
             return NONE;
         }
-        n = std::num::wrapping_add_u64(n, 1);
+        n = n.wrapping_add(1);
         i = space + 1;
     }
     NONE

@@ -1,13 +1,14 @@
 // What the programs share. The table: a place for every key, 0 where it has none. An ordered map by itself, for its
 // places are in key order. A place past its end has no entry, and nothing is stored there. Numbers at random
-// (`random`), and texts printed with numbers.
+// (`random`), texts printed with numbers, and input read into bytes that are there.
 #![tactic(auto)]
 
-ghost use Rattle.std.specs.Prelude.{◌≤◌};
+ghost use Rattle.std.specs.Prelude.{◌≤◌, length, IfOk};
 
 pub mod random;
 
-use libc::STDOUT_FILENO;
+use std::io;
+use std::io::Read;
 
 // Places of the table.
 pub const PLACES: usize = 4096;
@@ -75,7 +76,7 @@ pub fn held(table: &[u64], first: usize, last: usize) -> usize {
     let mut i = first;
     while i < last {
         if value_at(table, i) != 0 {
-            n = std::num::wrapping_add_usize(n, 1);
+            n = n.wrapping_add(1);
         }
         i += 1;
     }
@@ -99,38 +100,54 @@ pub fn word(keys: bool, table: &[u64], place: usize) -> u64 {
     value_at(table, place)
 }
 
-pub fn say(text: &[u8], number: u64) {
-    io::write_all(STDOUT_FILENO, text);
-    io::print_decimal(STDOUT_FILENO, number);
+pub fn say(rt: &impl Print, text: &[u8], number: u64) -> io::Result<()> {
+    rt.write_all(text)?;
+    rt.print(number)
 }
 
 // A byte of a text as it is, or the number that a capital stands for: A for the first, B for the second.
-fn put_byte(byte: u8, numbers: &[u64]) {
+fn put_byte(rt: &impl Print, byte: u8, numbers: &[u64]) -> io::Result<()> {
     if byte < b'A' {
-        write_byte(byte);
+        write_byte(rt, byte)
     } else if b'Z' < byte {
-        write_byte(byte);
+        write_byte(rt, byte)
     } else {
-        io::print_decimal(STDOUT_FILENO, value_at(numbers, (byte - b'A') as usize));
+        rt.print(value_at(numbers, (byte - b'A') as usize))
     }
 }
 
-pub fn write_byte(byte: u8) {
+pub fn write_byte(rt: &impl Print, byte: u8) -> io::Result<()> {
     let bytes = [byte];
-    io::write_all(STDOUT_FILENO, &bytes);
+    rt.write_all(&bytes)
 }
 
 // One of the texts that bars part, counted from 0, with its numbers.
-pub fn print(text: &[u8], which: usize, numbers: &[u64]) {
+pub fn print(rt: &impl Print, text: &[u8], which: usize, numbers: &[u64]) -> io::Result<()> {
     let mut bars: usize = 0;
     let mut i: usize = 0;
     while i < text.len() {
         let byte = text[i];
         if byte == b'|' {
-            bars = std::num::wrapping_add_usize(bars, 1);
+            bars = bars.wrapping_add(1);
         } else if bars == which {
-            put_byte(byte, numbers);
+            put_byte(rt, byte, numbers)?;
         }
         i += 1;
     }
+    Ok(())
+}
+
+// Fills the bytes from their start, until they are full or the input ends; how many it filled.
+pub fn read_full(input: &mut impl Read, bytes: &mut [u8]) -> io::Result<usize>
+    ensures { IfOk result (λ n. n ≤ length bytes.new) }
+{
+    let mut n: usize = 0;
+    while n < bytes.len() {
+        let more = input.read(&mut bytes[n..])?;
+        if more == 0 {
+            break;
+        }
+        n += more;
+    }
+    Ok(n)
 }

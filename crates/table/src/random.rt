@@ -1,4 +1,5 @@
 // Numbers at random, each from the one before it, and what is drawn from one: the same in every run.
+// The next one is made by shifts; what is drawn is some of a number's bits.
 
 // The first of a trial.
 pub const SEED: u64 = 88172645463325252;

@@ -99,10 +99,10 @@ pub fn peeks(pool: &[u64], table: &[u64], gap: usize) -> bool {
 // `low` on and under `high`, where it fits.
 fn drawn(low: usize, high: usize, places: usize, seed: u64) -> usize {
     let what = random::sixteenth(seed);
-    let wide = std::num::wrapping_sub_usize(high, low);
-    let mut place = std::num::wrapping_add_usize(low, random::below(seed, wide));
+    let wide = high.wrapping_sub(low);
+    let mut place = low.wrapping_add(random::below(seed, wide));
     if what == 0 {
-        place = std::num::wrapping_sub_usize(low, 1);
+        place = low.wrapping_sub(1);
     } else if what == 1 {
         place = high;
     } else if what == 2 {

@@ -8,6 +8,7 @@ use crate::told::{
 };
 use crate::{calls, told};
 use map::refusal::MAP;
+use std::io;
 use table::{UNTOUCHED, print, put, value_at, write_byte};
 
 // Words of a pool of three pages.
@@ -34,7 +35,7 @@ const LAST: u64 = 18446744073709551615;
 fn lay(space: &mut [u64], at: usize, from: &[u64]) {
     let mut i: usize = 0;
     while i < from.len() {
-        put(space, std::num::wrapping_add_usize(at, i), from[i]);
+        put(space, at.wrapping_add(i), from[i]);
         i += 1;
     }
 }
@@ -43,8 +44,8 @@ fn lay(space: &mut [u64], at: usize, from: &[u64]) {
 fn moved(space: &mut [u64], from: usize, to: usize) -> Told {
     let mut i: usize = 0;
     while i < THREE {
-        let word = value_at(space, std::num::wrapping_add_usize(from, i));
-        put(space, std::num::wrapping_add_usize(to, i), word);
+        let word = value_at(space, from.wrapping_add(i));
+        put(space, to.wrapping_add(i), word);
         i += 1;
     }
     plain(NOTHING)
@@ -61,8 +62,8 @@ fn changed(space: &[u64], other: usize) -> Told {
     let mut n: u64 = 0;
     let mut i: usize = 0;
     while i < THREE {
-        if value_at(space, i) != value_at(space, std::num::wrapping_add_usize(other, i)) {
-            n = std::num::wrapping_add_u64(n, 1);
+        if value_at(space, i) != value_at(space, other.wrapping_add(i)) {
+            n = n.wrapping_add(1);
         }
         i += 1;
     }
@@ -89,48 +90,53 @@ fn list(pool: &[u64], call: Call) -> Told {
 }
 
 // How many entries a list wrote, and the first four words of its slices; 0 past an end.
-fn columns(told: Told, keys: &[u64], values: &[u64]) -> Told {
-    tell(told);
-    tell(Told(ENTRY, value_at(keys, 0), value_at(values, 0)));
-    tell(Told(ENTRY, value_at(keys, 1), value_at(values, 1)));
-    tell(Told(ENTRY, value_at(keys, 2), value_at(values, 2)));
-    tell(Told(ENTRY, value_at(keys, 3), value_at(values, 3)));
-    plain(NOTHING)
+fn columns(rt: &impl Print, told: Told, keys: &[u64], values: &[u64]) -> io::Result<Told> {
+    tell(rt, told)?;
+    tell(rt, Told(ENTRY, value_at(keys, 0), value_at(values, 0)))?;
+    tell(rt, Told(ENTRY, value_at(keys, 1), value_at(values, 1)))?;
+    tell(rt, Told(ENTRY, value_at(keys, 2), value_at(values, 2)))?;
+    tell(rt, Told(ENTRY, value_at(keys, 3), value_at(values, 3)))?;
+    Ok(plain(NOTHING))
 }
 
-fn entries(pool: &[u64], call: Call) -> Told {
+fn entries(rt: &impl Print, pool: &[u64], call: Call) -> io::Result<Told> {
     let mut keys = [0u64; 4];
     let mut values = [0u64; 4];
     let told = calls::list(pool, b'E', bounds(call), &mut keys, &mut values);
-    columns(told, &keys, &values)
+    columns(rt, told, &keys, &values)
 }
 
-fn play_into(pool: &mut [u64], keys: &mut [u64], values: &mut [u64]) -> Told {
+fn play_into(
+    rt: &impl Print,
+    pool: &mut [u64],
+    keys: &mut [u64],
+    values: &mut [u64],
+) -> io::Result<Told> {
     let told = listed(cursor::play::play(pool, keys, values));
-    columns(told, keys, values)
+    columns(rt, told, keys, values)
 }
 
 // Playback into slices of two lengths, at most 4.
-fn play(pool: &mut [u64], a: usize, b: usize) -> Told {
+fn play(rt: &impl Print, pool: &mut [u64], a: usize, b: usize) -> io::Result<Told> {
     let mut keys = [0u64; 4];
     let mut values = [0u64; 4];
     if 4 < a {
-        return plain(NOTHING);
+        return Ok(plain(NOTHING));
     }
     if 4 < b {
-        return plain(NOTHING);
+        return Ok(plain(NOTHING));
     }
-    play_into(pool, &mut keys[0..a], &mut values[0..b])
+    play_into(rt, pool, &mut keys[0..a], &mut values[0..b])
 }
 
 // The key and value that a list of one has, and the word after them.
-fn only(pool: &[u64], call: Call) -> Told {
+fn only(rt: &impl Print, pool: &[u64], call: Call) -> io::Result<Told> {
     let mut keys = [UNTOUCHED; 2];
     let mut values = [UNTOUCHED; 2];
     let told = calls::list(pool, b'E', bounds(call), &mut keys, &mut values);
     let numbers = [told.1, keys[0], values[0], keys[1]];
-    print(b", list of A: B C, then D", 0, &numbers);
-    plain(NOTHING)
+    print(rt, b", list of A: B C, then D", 0, &numbers)?;
+    Ok(plain(NOTHING))
 }
 
 // How many keys there are on one side of the gap, up to the entry that a peek shows there.
@@ -154,12 +160,12 @@ fn beside(pool: &[u64], peek: Told, lower: u64, upper: u64) -> Told {
 }
 
 // The gap's place: the keys before it and those after it.
-fn gap(pool: &[u64]) -> Told {
+fn gap(rt: &impl Print, pool: &[u64]) -> io::Result<Told> {
     let before = beside(pool, stepped(cursor::peek_prev(pool)), 2, 0);
     let after = beside(pool, stepped(cursor::peek_next(pool)), 0, 2);
     let numbers = [before.1, after.1];
-    print(b" A and B", 0, &numbers);
-    plain(NOTHING)
+    print(rt, b" A and B", 0, &numbers)?;
+    Ok(plain(NOTHING))
 }
 
 // A new map in other words, copied into the pool.
@@ -209,75 +215,76 @@ fn words_of(call: Call) -> usize {
 }
 
 // A word written h, a word v, playback q, a page D, copy in Y, entries printed B, the gap g, an only entry o.
-fn pool_call(pool: &mut [u64], call: Call) -> Told {
+fn pool_call(rt: &impl Print, pool: &mut [u64], call: Call) -> io::Result<Told> {
     let letter = call.letter;
     match letter {
-        b'v' => Told(IS, value_at(pool, call.value as usize), 0),
-        b'q' => play(pool, call.first as usize, call.key as usize),
-        b'Y' => copy_in(pool, words_of(call)),
+        b'v' => Ok(Told(IS, value_at(pool, call.value as usize), 0)),
+        b'q' => play(rt, pool, call.first as usize, call.key as usize),
+        b'Y' => Ok(copy_in(pool, words_of(call))),
         b'h' => {
             put(pool, call.value as usize, call.key);
-            plain(NOTHING)
+            Ok(plain(NOTHING))
         }
-        b'E' | b'H' | b'V' | b'j' => list(pool, call),
-        _ => shown(pool, call),
+        b'E' | b'H' | b'V' | b'j' => Ok(list(pool, call)),
+        _ => shown(rt, pool, call),
     }
 }
 
-fn shown(pool: &mut [u64], call: Call) -> Told {
+fn shown(rt: &impl Print, pool: &mut [u64], call: Call) -> io::Result<Told> {
     let letter = call.letter;
     match letter {
-        b'D' => page(pool, call.first as usize),
-        b'B' => entries(pool, call),
-        b'g' => gap(pool),
-        b'o' => only(pool, call),
-        _ => calls::ask(pool, call),
+        b'D' => page(rt, pool, call.first as usize),
+        b'B' => entries(rt, pool, call),
+        b'g' => gap(rt, pool),
+        b'o' => only(rt, pool, call),
+        _ => Ok(calls::ask(pool, call)),
     }
 }
 
 // The pool's words made as new z, kept in the other words s, or traded with them t; how many have changed since x; copy
 // out y.
-fn made(space: &mut [u64], n: usize, call: Call) -> Told {
+fn made(rt: &impl Print, space: &mut [u64], n: usize, call: Call) -> io::Result<Told> {
     let letter = call.letter;
     match letter {
-        b'z' => moved(space, FRESH, POOL),
-        b's' => moved(space, POOL, OTHERS),
-        b't' => traded(space),
-        b'x' => changed(space, OTHERS),
-        b'y' => copy_out(space, n, words_of(call)),
+        b'z' => Ok(moved(space, FRESH, POOL)),
+        b's' => Ok(moved(space, POOL, OTHERS)),
+        b't' => Ok(traded(space)),
+        b'x' => Ok(changed(space, OTHERS)),
+        b'y' => Ok(copy_out(space, n, words_of(call))),
         _ => {
             if n <= space.len() {
-                return pool_call(&mut space[0..n], call);
+                return pool_call(rt, &mut space[0..n], call);
             }
-            plain(NOTHING)
+            Ok(plain(NOTHING))
         }
     }
 }
 
-fn answer(mark: u8, told: Told, star: bool) {
+fn answer(rt: &impl Print, mark: u8, told: Told, star: bool) -> io::Result<()> {
     match mark {
         b'~' => {
-            tell(told);
+            tell(rt, told)?;
             if star {
-                tell(plain(STAR));
+                tell(rt, plain(STAR))?;
             }
+            Ok(())
         }
-        b'+' => tell(in_full(told)),
-        b'#' => tell(Told(IS, told::number(told), 0)),
-        _ => {}
+        b'+' => tell(rt, in_full(told)),
+        b'#' => tell(rt, Told(IS, told::number(told), 0)),
+        _ => Ok(()),
     }
 }
 
 // A call; how many words the pool then has, which is what = says.
-fn turn(space: &mut [u64], n: usize, mark: u8, call: Call) -> usize {
+fn turn(rt: &impl Print, space: &mut [u64], n: usize, mark: u8, call: Call) -> io::Result<usize> {
     if call.letter == b'=' {
-        return words_of(call);
+        return Ok(words_of(call));
     }
     moved(space, POOL, BEFORE);
-    let told = made(space, n, call);
+    let told = made(rt, space, n, call)?;
     let star = changed(space, BEFORE);
-    answer(mark, told, star.1 != 0);
-    n
+    answer(rt, mark, told, star.1 != 0)?;
+    Ok(n)
 }
 
 // ---- scripts
@@ -317,13 +324,10 @@ fn number(tens: u64, ones: u64) -> u64 {
 
 // The call whose letter is at a place. Its value is of the figures, or where there are none it is the key.
 fn call_at(script: &[u8], i: usize) -> Call {
-    let first = byte(script, std::num::wrapping_add_usize(i, 1));
-    let second = byte(script, std::num::wrapping_add_usize(i, 2));
-    let tens = figure(byte(script, std::num::wrapping_add_usize(i, 3)));
-    let key = number(
-        tens,
-        figure(byte(script, std::num::wrapping_add_usize(i, 4))),
-    );
+    let first = byte(script, i.wrapping_add(1));
+    let second = byte(script, i.wrapping_add(2));
+    let tens = figure(byte(script, i.wrapping_add(3)));
+    let key = number(tens, figure(byte(script, i.wrapping_add(4))));
     let mut value = key;
     if second != b'-' {
         value = number(figure(first), figure(second));
@@ -344,22 +348,23 @@ fn is_mark(byte: u8) -> bool {
     }
 }
 
-fn play_script(script: &[u8], space: &mut [u64]) {
+fn play_script(rt: &impl Print, script: &[u8], space: &mut [u64]) -> io::Result<()> {
     let mut n: usize = 0;
     let mut i: usize = 0;
     while i < script.len() {
         let mark = script[i];
         i += 1;
         if is_mark(mark) {
-            n = turn(space, n, mark, call_at(script, i));
+            n = turn(rt, space, n, mark, call_at(script, i))?;
             i += 5;
         } else {
-            write_byte(mark);
+            write_byte(rt, mark)?;
         }
     }
+    Ok(())
 }
 
-pub fn run(script: &[u8]) {
+pub fn run(rt: &impl Print, script: &[u8]) -> io::Result<()> {
     let mut space = [UNTOUCHED; SPACE];
-    play_script(script, &mut space);
+    play_script(rt, script, &mut space)
 }

@@ -1,5 +1,6 @@
 // What comes of a trial's call, what a trial counts, and the line that it prints. An answer that is not the table's is
 // counted as wrong, and the trial goes on.
+use std::io;
 use table::{PLACES, print, value_at};
 
 // The figures, in the order of the report's capitals: the pool's pages and the calls; keys that were new, and that were
@@ -70,7 +71,7 @@ pub fn seen(figure: usize, amount: u64, right: bool, gap: usize) -> Outcome {
 // Two that rise one figure, the place and the gap of the second.
 pub fn both(one: Outcome, other: Outcome) -> Outcome {
     let mut o = other;
-    o.amount = std::num::wrapping_add_u64(one.amount, other.amount);
+    o.amount = one.amount.wrapping_add(other.amount);
     if !one.right {
         o.right = false;
     }
@@ -79,7 +80,7 @@ pub fn both(one: Outcome, other: Outcome) -> Outcome {
 
 fn add(tally: &mut [u64; FIGURES], what: usize, n: u64) {
     if what < FIGURES {
-        tally[what] = std::num::wrapping_add_u64(tally[what], n);
+        tally[what] = tally[what].wrapping_add(n);
     }
 }
 
@@ -91,11 +92,17 @@ pub fn count(tally: &mut [u64; FIGURES], o: Outcome) {
 }
 
 // By the trial's kind: a map's, a set's or a cursor's.
-pub fn report(pool: &[u64], kind: u64, calls: u64, tally: [u64; FIGURES]) {
+pub fn report(
+    rt: &impl Print,
+    pool: &[u64],
+    kind: u64,
+    calls: u64,
+    tally: [u64; FIGURES],
+) -> io::Result<()> {
     let mut numbers = tally;
     numbers[PAGES] = value_at(pool, 1);
     numbers[CALLS] = calls;
     numbers[LEFT] = value_at(pool, model::COUNT);
     numbers[LEVELS] = value_at(pool, model::LEVELS);
-    print(&REPORTS, kind as usize, &numbers);
+    print(rt, &REPORTS, kind as usize, &numbers)
 }

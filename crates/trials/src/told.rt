@@ -6,6 +6,7 @@ use map::list::Listed;
 use map::pool::{Answer, Checked, Counted, Empty};
 use map::refusal::Refusal;
 use map::{Contained, Got, Inserted, Removed, Replaced};
+use std::io;
 use table::print;
 
 // The words, a bar between each and the next; A and B stand for the numbers.
@@ -86,9 +87,9 @@ pub fn refused(why: Refusal) -> Told {
     Told(REFUSED, map::refusal::number(why), 0)
 }
 
-pub fn tell(told: Told) {
+pub fn tell(rt: &impl Print, told: Told) -> io::Result<()> {
     let numbers = [told.1, told.2];
-    print(&BOOK, told.0, &numbers);
+    print(rt, &BOOK, told.0, &numbers)
 }
 
 // With the pages that get read.

@@ -4,6 +4,7 @@ use crate::tally::{FIGURES, LISTED, OTHER, Outcome, both, count, report, seen};
 use crate::told::{DONE, IS, SOUND, Told, answered, checked, counted, empty, plain, same};
 use crate::{entries, gaps, lists, told};
 use map::refusal::{MAP, SET};
+use std::io;
 use table::{PLACES, UNTOUCHED, held, put, random};
 
 // Words of the longest pool of the trials.
@@ -104,7 +105,7 @@ fn part(kind: u64, calls: u64, i: u64) -> u64 {
 // The number at random of a call: after the one before it, or after the part's first.
 fn drawn(kind: u64, calls: u64, i: u64, seed: u64) -> u64 {
     if is_first(kind, calls, i) {
-        return random::next(std::num::wrapping_add_u64(random::SEED, part(kind, calls, i)));
+        return random::next(random::SEED.wrapping_add(part(kind, calls, i)));
     }
     random::next(seed)
 }
@@ -204,27 +205,40 @@ fn ended(pool: &mut [u64], kind: u64, table: &[u64]) -> Outcome {
 // How many calls there are in all.
 fn all(kind: u64, calls: u64) -> u64 {
     if kind == CURSOR {
-        return std::num::wrapping_add_u64(calls, std::num::wrapping_add_u64(calls, calls));
+        return calls.wrapping_add(calls.wrapping_add(calls));
     }
     calls
 }
 
-fn trial(pool: &mut [u64], kind: u64, calls: u64, table: &mut [u64]) {
+fn trial(
+    rt: &impl Print,
+    pool: &mut [u64],
+    kind: u64,
+    calls: u64,
+    table: &mut [u64],
+) -> io::Result<()> {
     let mut tally = [0u64; FIGURES];
     count(&mut tally, begun(pool, kind, table));
     run(pool, kind, calls, all(kind, calls), table, &mut tally);
     count(&mut tally, ended(pool, kind, table));
-    report(pool, kind, calls, tally);
+    report(rt, pool, kind, calls, tally)
 }
 
 // A trial in the first words of some, with keys at so many places.
-pub fn trial_in(words: &mut [u64], n: usize, kind: u64, calls: u64, places: usize) {
+pub fn trial_in(
+    rt: &impl Print,
+    words: &mut [u64],
+    n: usize,
+    kind: u64,
+    calls: u64,
+    places: usize,
+) -> io::Result<()> {
     if words.len() < n {
-        return;
+        return Ok(());
     }
     if PLACES < places {
-        return;
+        return Ok(());
     }
     let mut table = [0u64; PLACES];
-    trial(&mut words[0..n], kind, calls, &mut table[0..places]);
+    trial(rt, &mut words[0..n], kind, calls, &mut table[0..places])
 }
