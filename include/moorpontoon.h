@@ -1,5 +1,6 @@
 /* Moorpontoon: an ordered map, a set and a cursor in a pool of 64-bit words that you lend. No heap, no global state.
- * The functions are in libmoorpontoon.a, which `rt lib` in crates/moorpontoon writes for x86-64 Linux.
+ * The functions are in libmoorpontoon.a, which `rt lib` in crates/moorpontoon writes for x86-64 Linux, on processors
+ * of level x86-64-v2 and above.
  *
  * Every call:    number = mp_NAME(pool, len, ARGUMENTS.., out, out_len);
  *   - `len` is the pool's length in words: MP_WORDS(pages), pages from 1 to 4096.

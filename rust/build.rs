@@ -13,8 +13,8 @@ fn main() {
         println!("cargo:rerun-if-changed={}", path.display());
     }
     let archive = named.unwrap_or_else(prove);
-    // Only a copy in OUT_DIR is linked: the archive named may have any name, and a proof from nothing removes the folder
-    // that it is built in.
+    // Only a copy in OUT_DIR is linked: the archive named may have any name, and a proof from nothing removes the
+    // folder that it is built in.
     let out = PathBuf::from(env::var_os("OUT_DIR").expect("cargo sets OUT_DIR"));
     if let Err(why) = fs::copy(&archive, out.join("libmoorpontoon.a")) {
         stop(&format!("the archive {} cannot be read: {why}", archive.display()));
@@ -55,8 +55,8 @@ fn prove() -> PathBuf {
 /// Ends the build with one message.
 fn stop(why: &str) -> ! {
     eprintln!(
-        "moorpontoon: no archive to link: {why}. `rt lib` in crates/moorpontoon makes the archive, for x86-64 Linux alone, \
-         on a machine that has the Rattle kit. Where it cannot, set MOORPONTOON_LIB to the path of an archive."
+        "moorpontoon: no archive to link: {why}. `rt lib` in crates/moorpontoon makes the archive, for x86-64 Linux \
+         alone, on a machine that has the Rattle kit. Where it cannot, set MOORPONTOON_LIB to the path of an archive."
     );
     exit(1)
 }

@@ -1,7 +1,8 @@
 #!/usr/bin/env python3
 """Respells this repository's own definitions and lemmas for the newer Rattle: words in snake case.
 
-usage: python3 tools/respell.py [--say]      at the top of a checkout over which the kit's port.py has run; --say changes nothing
+usage: python3 tools/respell.py [--say]
+At the top of a checkout over which the kit's port.py has run. --say changes nothing.
 
 Functions of src/, exported names, strings and what programs read and write have no such spelling, so they stay.
 """

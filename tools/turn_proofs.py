@@ -1,7 +1,8 @@
 #!/usr/bin/env python3
 """Turns proofs over a function's places (Proof.antt) into answers by name (Invariants.antt and Answers.antt).
 
-usage: python3 tools/turn_proofs.py CRATE NAMES.json [WORD..]     at the top of the checkout; with words, only folders that have one of them
+usage: python3 tools/turn_proofs.py CRATE NAMES.json [WORD..]
+At the top of the checkout. With words, only folders that have one of them.
 
 NAMES.json is what `rt check --generated DIR --old-names` writes in the crate's folder. Answers that the check finds by
 itself are dropped. What it could not turn is printed, and stands in the file as it was.

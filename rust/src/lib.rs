@@ -48,9 +48,9 @@
 //!
 //! # Linking
 //!
-//! Set `MOORPONTOON_LIB` to the path of the archive `libmoorpontoon.a`, absolute or from this crate's folder. Without it the
-//! build runs `rt lib` in crates/moorpontoon in the repository, which proves the library and makes the archive for x86-64 Linux.
-//! This crate needs `core` alone.
+//! Set `MOORPONTOON_LIB` to the path of the archive `libmoorpontoon.a`, absolute or from this crate's folder. Without
+//! it the build runs `rt lib` in the repository's crates/moorpontoon, which proves the library and makes the archive for
+//! x86-64 Linux, on processors of level x86-64-v2 and above. This crate needs `core` alone.
 //!
 //! [`BTreeMap`]: https://doc.rust-lang.org/std/collections/struct.BTreeMap.html
 //! [`BTreeSet`]: https://doc.rust-lang.org/std/collections/struct.BTreeSet.html

@@ -1,5 +1,5 @@
--- What each answer of a cursor call says: document 01's number for each refusal, and the values of every other case. (Insert after and close answer as make does: map's `answer_of`.)
--- Assumes nothing: these are definitions.
+-- What each answer of a cursor call says: document 01's number for each refusal, and the values of every other case.
+-- (Insert after and close answer as make does: map's `answer_of`.) Assumes nothing: these are definitions.
 use Rattle.std.proofs.Math.Option.{Option, none, some}
 use Rattle.std.specs.Prelude.{ℕ}
 use Rattle.model.specs.Tree.{Entry, entry}

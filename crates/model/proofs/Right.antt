@@ -98,7 +98,7 @@ module _ (p : Pool) (r : Right p) where
   pub right-full : length (held_by p) ≤ most_entries (least_by p) * pages_of p.whole
   right-full = whole-most (least_by p) p.whole r.formed
 
-  -- no insert is refused for room while n ≤ m_p
+  -- no insert is refused for room while n ≤ mP
   pub right-room : (g : ℕ) → g ≤ length (held_by p) → length (held_by p) ≤ least_by p * p.pages → crowded g p ≡ false
   right-room g b n =
       le-ltb (room p) (needed (least_by p) p.whole g)

@@ -1,7 +1,6 @@
 -- Wrong bodies are refused. Document 01's five, for every sound pool on which they are wrong; its six errors that look
--- right, for whatever body makes them; and for each shape of promise two bodies more, as for what inner contracts say of
--- a page. docs/WRONG.md lists them.
--- Assumes nothing.
+-- right, for whatever body makes them; and for each shape of promise two bodies more, as for what inner contracts say
+-- of a page. docs/WRONG.md lists them. Assumes nothing.
 use mathlib.Core.Path.{◌≡◌, refl, sym, ap, ◌∙◌}
 use mathlib.Core.Bool.{true, false, not}
 use mathlib.Core.Logic.{◌⊎◌, inl, inr, ⊎_elim, ◌≢◌}

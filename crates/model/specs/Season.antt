@@ -118,6 +118,6 @@ pub record Demand (γ : Geometry) (P accepted removed : ℕ) (w : List ℕ) : Ty
   pub level : (p : ℕ) (route : List ℕ) → Reached w route p → height_of (page_of w p) ≡ 0 → suc (length route) ≡ levels_word w
   -- 2·(m+1)^(h−1) ≤ n+1, with n ≥ 1: 2·5^(h−1), where m is 4
   pub deep : 1 ≤ number_in w → 2 * suc γ.least ^ pred (levels_word w) ≤ number_in w + 1
-  -- no insert is refused for room while n ≤ m_p: 4P
+  -- no insert is refused for room while n ≤ mP: 4P
   pub room : number_in w ≤ γ.least * P → (k x : ℕ) (v : List ℕ)
       → (Meets (map_insert k x) w v (refused 7) → ⊥) × (Meets (set_insert k) w v (refused 7) → ⊥) × (Meets (cursor_insert_after k x) w v (refused 7) → ⊥)

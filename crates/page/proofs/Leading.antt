@@ -1,5 +1,5 @@
--- How many words stand in front that pass a test: step by step, and by the mask of the words that pass, whose trailing ones they are.
--- Assumes nothing.
+-- How many words stand in front that pass a test: step by step, and by the mask of the words that pass, whose trailing
+-- ones they are. Assumes nothing.
 use mathlib.Core.Path.{◌≡◌, refl, sym, ap, ◌∙◌}
 use mathlib.Core.Bool.{Bool, true, false, cond, ◌&&◌, ◌||◌}
 use mathlib.Core.Logic.{◌≢◌}

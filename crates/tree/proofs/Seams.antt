@@ -1,6 +1,5 @@
--- A gap and the one behind it: they lie in one child of the page, or around one of its own entries. Over a function `f` that says what a child holds;
--- then of trees, with the entry between the two.
--- Assumes nothing.
+-- A gap and the one behind it: they lie in one child of the page, or around one of its own entries. Over a function `f`
+-- that says what a child holds; then of trees, with the entry between the two. Assumes nothing.
 use mathlib.Core.Path.{◌≡◌, refl, ap, ◌∙◌}
 use mathlib.Core.List.{List, [], ◌∷◌, ◌++◌}
 use Prim.Native.Nat.{ℕ, zero, suc, ◌+◌, ◌≤◌, ◌<◌}

@@ -1,4 +1,5 @@
--- `page::lengthen` meets its contract: the keys, the values and, above the leaves, the children have one more behind the last.
+-- `page::lengthen` meets its contract: the keys, the values and, above the leaves, the children have one more behind
+-- the last.
 use mathlib.Core.Path.{◌≡◌}
 use Prim.Native.Nat.{suc, ◌+◌}
 use native.Mathlib.Numerals.{add-one}

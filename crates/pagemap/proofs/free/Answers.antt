@@ -1,4 +1,5 @@
--- `pagemap::free` meets its contract: `map[w] & !(1 << b)` is the definition's word, and past the words nothing changes.
+-- `pagemap::free` meets its contract: `map[w] & !(1 << b)` is the definition's word, and past the words nothing
+-- changes.
 use mathlib.Core.Path.{sym, ap}
 use Prim.Native.Nat.{ℕ, ◌-◌, ◌%◌, ◌/◌, ◌^◌}
 use native.Mathlib.Omega.{arith}

@@ -1,4 +1,5 @@
--- `pagemap::is_taken` meets its contract: `(map[w] >> b) % 2` is the definition of the bit, and past the words the bit is 0.
+-- `pagemap::is_taken` meets its contract: `(map[w] >> b) % 2` is the definition of the bit, and past the words the bit
+-- is 0.
 use mathlib.Core.Path.{refl}
 use Prim.Native.Nat.{◌%◌}
 use lib.ListN.{get_or-eq_default}

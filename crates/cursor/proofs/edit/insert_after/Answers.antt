@@ -1,4 +1,5 @@
--- `edit::insert_after` meets its contract: past the first tests it lends a path as long as the head says that there are levels.
+-- `edit::insert_after` meets its contract: past the first tests it lends a path as long as the head says that there are
+-- levels.
 use mathlib.Core.Path.{◌≡◌, refl, sym, ap, ◌∙◌}
 use borrow.Author.Rules.{rules}
 use Rattle.model.specs.Refusal.{refusal}

@@ -1,4 +1,5 @@
--- `gap::ready` meets its contract: what refuses a call that reads refuses a cursor call, and then the cursor is looked at.
+-- `gap::ready` meets its contract: what refuses a call that reads refuses a cursor call, and then the cursor is looked
+-- at.
 use mathlib.Core.Path.{◌≡◌, ap, sym, ◌∙◌}
 use mathlib.Core.Bool.{true}
 use native.Mathlib.Omega.{arith}

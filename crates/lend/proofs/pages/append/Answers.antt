@@ -1,4 +1,5 @@
--- `pages::append` meets its contract: page `l` holds its own entries, the one between and the first j of page `r` after each turn.
+-- `pages::append` meets its contract: page `l` holds its own entries, the one between and the first j of page `r` after
+-- each turn.
 use native.Mathlib.Omega.{arith}
 use borrow.Author.Rules.{rules}
 use Rattle.model.specs.Tree.{entry}

@@ -1,4 +1,5 @@
--- `pages::append` meets its contract: page `l` holds its own entries, the one between and the first j of page `r` after each turn.
+-- `pages::append` meets its contract: page `l` holds its own entries, the one between and the first j of page `r` after
+-- each turn.
 use Prim.Native.Nat.{◌+◌, ◌-◌, ◌≤◌}
 use Rattle.lend.proofs.Copied.{Joining}
 use Rattle.lend.proofs.pages.append.Given as goal

@@ -1,4 +1,4 @@
--- `pages::take_left` meets its contract: the places are those of `pass`.
+-- `pages::take_left` meets its contract: what `pass` promises, at these slots.
 use mathlib.Core.Path.{refl}
 use Prim.Native.Nat.{◌-◌}
 use native.Mathlib.Omega.{arith}

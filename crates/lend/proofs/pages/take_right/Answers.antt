@@ -1,4 +1,4 @@
--- `pages::take_right` meets its contract: the places are those of `pass`.
+-- `pages::take_right` meets its contract: what `pass` promises, at these slots.
 use mathlib.Core.Path.{refl}
 use native.Mathlib.Numerals.{add-one}
 use native.Mathlib.Omega.{arith}

@@ -1,4 +1,5 @@
--- `refusal::changing` meets its contract: what refuses a call that reads refuses one that changes, and then the cursor is looked at.
+-- `refusal::changing` meets its contract: what refuses a call that reads refuses one that changes, and then the cursor
+-- is looked at.
 use mathlib.Core.Path.{◌≡◌, ap, sym, ◌∙◌}
 use mathlib.Core.Bool.{true}
 use native.Mathlib.Omega.{arith}

@@ -1,4 +1,5 @@
--- `page::runs::walk` meets its contract. The invariant: the words passed and the place in the rest make the place in all.
+-- `page::runs::walk` meets its contract. The invariant: the words passed and the place in the rest make the place in
+-- all.
 use mathlib.Core.Bool.{true}
 use native.Mathlib.Omega.{arith}
 use lib.ListN.{get_or}

@@ -1,4 +1,5 @@
--- `page::runs::walk` meets its contract. The invariant: the words passed and the place in the rest make the place in all.
+-- `page::runs::walk` meets its contract. The invariant: the words passed and the place in the rest make the place in
+-- all.
 use mathlib.Core.Path.{◌≡◌}
 use mathlib.Core.Bool.{true}
 use Prim.Native.Nat.{◌≤◌, ◌+◌, ◌-◌}

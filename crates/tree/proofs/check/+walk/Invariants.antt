@@ -1,5 +1,5 @@
--- `check::walk`: the function's measure is the height, the loop's what is left of the children; the loop's content is in
--- `Walking`.
+-- `check::walk`: the function's measure is the height, the loop's what is left of the children; the loop's content is
+-- in `Walking`.
 use Rattle.std.proofs.Common.{◌+◌, ◌-◌}
 use Rattle.tree.proofs.Walking.{Going}
 use Rattle.tree.proofs.check.+walk.Given as goal

@@ -1,4 +1,5 @@
--- `insert::insert_along` meets its contract: at each place of the path, what is handed up is what an insertion below that place hands up.
+-- `insert::insert_along` meets its contract: at each place of the path, what is handed up is what an insertion below
+-- that place hands up.
 use mathlib.Core.Path.{◌≡◌, subst, ap}
 use Prim.Native.Nat.{ℕ, ◌-◌, ◌≤◌}
 use native.Mathlib.Omega.{arith}

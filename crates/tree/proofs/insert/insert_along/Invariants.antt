@@ -1,4 +1,5 @@
--- `insert::insert_along` meets its contract: at each place of the path, what is handed up is what an insertion below that place hands up.
+-- `insert::insert_along` meets its contract: at each place of the path, what is handed up is what an insertion below
+-- that place hands up.
 use Prim.Native.Nat.{◌≤◌}
 use lib.ListN.{length, drop}
 use Rattle.model.specs.Tree.{entry}

@@ -1,4 +1,5 @@
--- `remove::join` meets its contract: the two children are found and joined, and the right one is freed, or nothing changes.
+-- `remove::join` meets its contract: the two children are found and joined, and the right one is freed, or nothing
+-- changes.
 use mathlib.Core.Path.{◌≡◌, sym, ◌∙◌}
 use Prim.Native.Nat.{suc}
 use native.Mathlib.Numerals.{add-one}

@@ -1,4 +1,5 @@
--- `search::seek_below` meets its contract. The loop keeps what is left to do: the path from the page at hand, put behind what is recorded, is the whole path.
+-- `search::seek_below` meets its contract. The loop keeps what is left to do: the path from the page at hand, put
+-- behind what is recorded, is the whole path.
 use mathlib.Core.Path.{◌≡◌}
 use Prim.Native.Nat.{◌-◌, ◌<◌}
 use lib.ListN.{length}

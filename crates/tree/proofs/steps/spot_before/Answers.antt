@@ -1,4 +1,5 @@
--- `steps::spot_before` meets its contract. The loop's invariant: the pages that are left give what the whole path gives.
+-- `steps::spot_before` meets its contract. The loop's invariant: the pages that are left give what the whole path
+-- gives.
 use mathlib.Core.Path.{◌≡◌, sym, ◌∙◌}
 use Prim.Native.Nat.{ℕ, suc, ◌-◌, ◌<◌}
 use native.Mathlib.Omega.{arith}

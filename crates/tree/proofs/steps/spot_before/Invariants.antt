@@ -1,4 +1,5 @@
--- `steps::spot_before` meets its contract. The loop's invariant: the pages that are left give what the whole path gives.
+-- `steps::spot_before` meets its contract. The loop's invariant: the pages that are left give what the whole path
+-- gives.
 use Rattle.tree.specs.Steps.{here_before}
 use Rattle.tree.proofs.Spots.{Left}
 use Rattle.tree.proofs.steps.spot_before.Given as goal
