@@ -1,5 +1,5 @@
-// Insert after and remove next: the entry after the gap put in or taken away, along the gap's path, so that each costs one descent. The gap names the entry before it, or the start, and
-// neither call touches that.
+// Insert after and remove next: the entry after the gap put in or taken away, along the gap's path, so that each costs
+// one descent. The gap names the entry before it, or the start, and neither call touches that.
 ghost use Rattle.std.specs.Prelude.{◌≡◌, true, length};
 ghost use Rattle.model.specs.Head.{levels_word, headed};
 ghost use Rattle.model.specs.Refusal.{refusal};
@@ -17,7 +17,8 @@ use model::{AFTER, KEY, MOST_LEVELS};
 use page::Change;
 use tree::insert::Inserted;
 
-// Whether a key lies strictly between the gap's neighbours: above the key that the gap names, and under that of the entry after it.
+// Whether a key lies strictly between the gap's neighbours: above the key that the gap names, and under that of the
+// entry after it.
 fn fits(pool: &[u64], next: Ahead, key: u64) -> bool
     requires pool_value { headed pool.now ≡ true }
     requires inside_ahead { InsideAhead pool.now next }

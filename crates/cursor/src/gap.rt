@@ -1,5 +1,6 @@
-// The gap, in head words 5 to 7: word 5 is 1 while the cursor is open, word 6 is 0 for a gap at the start and 1 for a gap just after an entry, whose key is word 7. Here are the tests that a
-// cursor call passes before it looks at it, where it is, and where it is laid.
+// The gap, in head words 5 to 7: word 5 is 1 while the cursor is open, word 6 is 0 for a gap at the start and 1 for a
+// gap just after an entry, whose key is word 7. Here are the tests that a cursor call passes before it looks at it,
+// where it is, and where it is laid.
 ghost use Rattle.std.specs.Prelude.{◌≡◌, true};
 ghost use Rattle.model.specs.Head.{headed};
 ghost use Rattle.model.specs.Refusal.{refusal};

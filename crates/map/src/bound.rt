@@ -1,5 +1,6 @@
-// Bounds: kind 0 is Included, 1 is Excluded, 2 is Unbounded, the key then ignored; a kind of 3 or more is refused. A bound names a gap, and the keys before that gap are those that come
-// before the bound: at the lower end the source's `before_lower_bound`, at the upper end its `before_upper_bound`.
+// Bounds: kind 0 is Included, 1 is Excluded, 2 is Unbounded, the key then ignored; a kind of 3 or more is refused. A
+// bound names a gap, and the keys before that gap are those that come before the bound: at the lower end the source's
+// `before_lower_bound`, at the upper end its `before_upper_bound`.
 ghost use Rattle.std.specs.Prelude.{◌≡◌};
 ghost use Rattle.tree.specs.Search.{aimed};
 ghost use Rattle.map.specs.Bound.{lower_by, upper_by};

@@ -1,4 +1,5 @@
-// The refusals, in document 01's order, and the tests that need only lengths, head and arguments: a call passes them before it looks further.
+// The refusals, in document 01's order, and the tests that need only lengths, head and arguments: a call passes them
+// before it looks further.
 ghost use Rattle.std.specs.Prelude.{◌≡◌};
 ghost use Rattle.model.specs.Refusal.{refusal};
 ghost use Rattle.model.specs.MapCalls.{read_tests, change_tests};

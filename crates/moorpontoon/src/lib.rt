@@ -1,5 +1,6 @@
-// The library that C and Rust link: each call of document 01 as one exported function, thin over map and cursor, which takes the answer apart into numbers.
-// Nothing is asked of the caller: with fewer than 4 words of `out` each returns 255 and does nothing. A refusal leaves every lent word as it was.
+// The library that C and Rust link: each call of document 01 as one exported function, thin over map and cursor, which
+// takes the answer apart into numbers. Nothing is asked of the caller: with fewer than 4 words of `out` each returns
+// 255 and does nothing. A refusal leaves every lent word as it was.
 #![tactic(auto)]
 
 pub mod cursor_calls;

@@ -1,4 +1,5 @@
-// An entry overwritten where it stands, as insert of a key present, replace, write next and write prev do. No page is needed or freed.
+// An entry overwritten where it stands, as insert of a key present, replace, write next and write prev do. No page is
+// needed or freed.
 ghost use Rattle.std.specs.Prelude.{◌<◌};
 ghost use Rattle.lend.specs.Pages.{most, Inside};
 ghost use Rattle.tree.specs.Write.{Writes};
