@@ -10,6 +10,9 @@ use mathlib.Core.List.{List}
 use Prim.Native.Nat.{ℕ}
 use native.Mathlib.Omega.{arith}
 use lib.ListN.{length, get_or}
+use Rattle.std.specs.Prelude as std
+use Rattle.std.specs.Prelude.{Ok, Some, None, Result}
+use Rattle.page.specs.declared.Unsound.{Unsound}
 use Rattle.model.specs.Head.{levels_word, after_word, key_word, headed}
 use Rattle.model.specs.Tree.{entry, no_entry, held}
 use Rattle.model.specs.Page.{entry_in}
@@ -21,18 +24,15 @@ use Rattle.model.specs.MapCalls.{file}
 use Rattle.model.specs.CursorCalls.{cursor_tests, prev_of, cursor_prev, cursor_peek_prev, cursor_write_prev}
 use Rattle.model.specs.Source.{view}
 use Rattle.lend.specs.Pages.{most, page_in}
-use Rattle.tree.specs.declared.search.Got.{Got}
-use Rattle.tree.specs.declared.search.Got.TheVariants as got
+use Rattle.tree.specs.declared.search.Found as search
 use Rattle.tree.specs.declared.steps.Spot.{Spot}
 use Rattle.tree.specs.Sits.{PathOf}
 use Rattle.tree.specs.Search.{Gets, ReadFew, got_by}
-use Rattle.tree.specs.Steps.{SpotBefore}
+use Rattle.tree.specs.Steps.{SpotBefore, spot}
 use Rattle.tree.specs.Write.{Writes}
-use Rattle.map.specs.declared.entry.Sought.{Sought}
-use Rattle.map.specs.declared.entry.Sought.TheVariants as sought
 use Rattle.map.specs.Entry.{Finds, SeeksKey}
 use Rattle.cursor.specs.Gap.{rest_words}
-use Rattle.model.proofs.Cases.{contrary}
+use Rattle.model.proofs.Cases.{contrary, never}
 use Rattle.model.proofs.Basics.{next-some}
 use Rattle.model.proofs.Head.{head-facts}
 use Rattle.model.proofs.Entries.{lookup-at}
@@ -66,9 +66,10 @@ module _ (w : List ℕ) (s : Sound w) where
         let value : (get_or (held_by (pool_of w)) g no_entry).value ≡ x = cc named_value in
         rw n.at (next-some (held_by (pool_of w)) g no_entry n.there ∙ ap some (ap₂ entry n.key value))
 
--- what a search that finds a value cannot be
-got-there : (o : Option ℕ) (n : ℕ) {x : ℕ} {r : Got} → o ≡ some x → r ≡ got_by 0 o n → ((v k : ℕ) → r ≡ got.Value v k → ⊥) → ⊥
-got-there o n {x = x} value e others = others x _ (e ∙ ap (λ (q : Option ℕ). got_by 0 q n) value)
+-- a search for a key that is there finds a value
+got-there : (o : Option ℕ) (n : ℕ) {x : ℕ} → o ≡ some x → Ok None ≡ got_by 0 o n → ⊥
+got-there (some v) n value e = never (cc)
+got-there none n value e = never (cc)
 
 -- ---- the calls, past their first tests
 
@@ -101,24 +102,25 @@ module _ {w : List ℕ} (pass : 0 ≡ refusal (cursor_tests w)) where
     named s = gap-named w s ready.opened after
 
     -- a search for its key finds it
-    found-there : (r : Sought) → Finds w (key_word w) r → ((p i : ℕ) → r ≡ sought.Here p i → ⊥) → Sound w → ⊥
-    found-there (sought.Here p i) finds others s = others p i refl
-    found-there sought.Absent finds others s = contrary (named s).1.member (finds.absent refl s)
-    found-there sought.Unsound finds others s = finds.unsound refl s
+    found-there : Finds w (key_word w) (Ok None) → Sound w → ⊥
+    found-there finds s = contrary (named s).1.member (finds.absent refl s)
 
-    module _ {r : Sought} (finds : Finds w (key_word w) r) (others : (p i : ℕ) → r ≡ sought.Here p i → ⊥) where
+    module _ {at : std.Option Spot} (finds : Finds w (key_word w) (Ok at)) (past : at ≡ None) where
+      lost : Sound w → ⊥
+      lost = found-there (rw past at finds)
+
       pub prev-lost : Meets cursor_prev w w (refused 9)
-      prev-lost = meets-unsound (λ w p. (refl, refl)) keeps-prev pass (refl, found-there r finds others)
+      prev-lost = meets-unsound (λ w p. (refl, refl)) keeps-prev pass (refl, lost)
 
       pub write-prev-lost : (x : ℕ) → Meets (cursor_write_prev x) w w (refused 9)
-      write-prev-lost x = meets-unsound (λ w p. (refl, refl)) (keeps-write-prev x) pass (refl, found-there r finds others)
+      write-prev-lost x = meets-unsound (λ w p. (refl, refl)) (keeps-write-prev x) pass (refl, lost)
 
-    pub peek-prev-lost : {r : Got} → Gets w (key_word w) r → ((v n : ℕ) → r ≡ got.Value v n → ⊥) → Meets cursor_peek_prev w w (refused 9)
-    peek-prev-lost gets others =
-        meets-unsound (λ w p. (refl, refl)) (keeps-reads cursor_tests prev_of) pass (refl, λ s. got-there _ _ (named_value w s (named s).1) (gets s) others)
+    pub peek-prev-lost : {r : Result (std.Option search.Found) Unsound} → Gets w (key_word w) r → r ≡ Ok None → Meets cursor_peek_prev w w (refused 9)
+    peek-prev-lost gets lost =
+        meets-unsound (λ w p. (refl, refl)) (keeps-reads cursor_tests prev_of) pass (refl, λ s. got-there _ _ (named_value w s (named s).1) (sym lost ∙ gets s))
 
-    pub prev-back : {ps ss ps' ss' v : List ℕ} {r : Sought} {p i key x : ℕ} {behind : Spot}
-        → SeeksKey w (key_word w) ps ss ps' ss' r → r ≡ sought.Here p i → entry key x ≡ entry_in most (page_in w p) i → SpotBefore w ps' ss' behind → v ≡ rest_words behind w
+    pub prev-back : {ps ss ps' ss' v : List ℕ} {at : std.Option Spot} {p i key x : ℕ} {behind : std.Option Spot}
+        → SeeksKey w (key_word w) ps ss ps' ss' (Ok at) → at ≡ Some (spot p i) → entry key x ≡ entry_in most (page_in w p) i → SpotBefore w ps' ss' behind → v ≡ rest_words behind w
         → Meets cursor_prev w v (answered (some (entry (key_word w) x)))
     unfolding held
     prev-back {ps' = ps'} {ss' = ss'} {p = p} {i = i} {key = key} {x = x} {behind = behind} seeks e read before rested =
@@ -127,7 +129,7 @@ module _ {w : List ℕ} (pass : 0 ≡ refusal (cursor_tests w)) where
         let P = pool_of w in
         let g = (named s).0 in
         let n = (named s).1 in
-        let stands = (seeks.finds.here p i e).there s in
+        let stands = (seeks.finds.here p i (ap Ok e)).there s in
         let is = prev-some w s n (spot-value w (key_word w) s p i key x stands.1 read stands.0) in
         let path = subst (λ (j : ℕ). PathOf P.whole.levels P.whole.tree j ps' ss') n.before (seeks.path s) in
         let found = before.exact 1 P.whole.levels P.whole.tree g (sound-sits w s) (omega (arith, n.there)) path in
@@ -138,18 +140,18 @@ module _ {w : List ℕ} (pass : 0 ≡ refusal (cursor_tests w)) where
           still = λ z. contrary z (rw is);
         })
 
-    pub peek-prev-value : {r : Got} {x m : ℕ} → Gets w (key_word w) r × ReadFew (levels_word w) r → r ≡ got.Value x m
-        → Meets cursor_peek_prev w w (answered (some (entry (key_word w) x)))
+    pub peek-prev-value : {r : Result (std.Option search.Found) Unsound} {f : search.Found} → Gets w (key_word w) r × ReadFew (levels_word w) r → r ≡ Ok (Some f)
+        → Meets cursor_peek_prev w w (answered (some (entry (key_word w) f.value)))
     peek-prev-value gets e = meets-read cursor_tests prev_of (λ w p. (refl, refl)) pass (λ s. sym (prev-some w s (named s).1 (gets-value (key_word w) w gets e s).0))
 
-    pub write-prev-over : {r : Sought} {p i x old : ℕ} {v : List ℕ} → Finds w (key_word w) r → r ≡ sought.Here p i → Writes p i x w v old
+    pub write-prev-over : {at : std.Option Spot} {p i x old : ℕ} {v : List ℕ} → Finds w (key_word w) (Ok at) → at ≡ Some (spot p i) → Writes p i x w v old
         → Meets (cursor_write_prev x) w v (answered (some old))
     unfolding file
     write-prev-over {p = p} {i = i} {x = x} finds e writes =
         meets-answered (λ w p. (refl, refl)) (keeps-write-prev x) pass writes.only.long
         (λ s.
         let n = (named s).1 in
-        let o = overwritten w (key_word w) (finds.here p i e) writes s in
+        let o = overwritten w (key_word w) (finds.here p i (ap Ok e)) writes s in
         let is = prev-some w s n o.1 in
         record {
           passes = refl;

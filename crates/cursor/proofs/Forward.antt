@@ -6,6 +6,9 @@ use mathlib.Core.Option.{Option, none, some}
 use mathlib.Core.List.{List}
 use Prim.Native.Nat.{ℕ, suc}
 use lib.ListN.{length-set, get_or}
+use Rattle.std.specs.Prelude as std
+use Rattle.std.specs.Prelude.{Ok, Some, None}
+use Rattle.tree.specs.declared.steps.Spot.{Spot}
 use Rattle.model.specs.Tree.{Entry, entry, no_entry}
 use Rattle.model.specs.Page.{entry_in}
 use Rattle.model.specs.Entries.{gap}
@@ -16,8 +19,6 @@ use Rattle.model.specs.Call.{answered, Meets}
 use Rattle.model.specs.CursorCalls.{cursor_tests, next_of, missing, cursor_next, cursor_peek_next, cursor_write_next}
 use Rattle.lend.specs.Pages.{most, page_in}
 use Rattle.tree.specs.Write.{Writes}
-use Rattle.cursor.specs.declared.ahead.Ahead.{Ahead}
-use Rattle.cursor.specs.declared.ahead.Ahead.TheVariants as ahead
 use Rattle.cursor.specs.Ahead.{FindsAhead}
 use Rattle.cursor.specs.Gap.{gap_words}
 use Rattle.model.proofs.Cases.{contrary}
@@ -27,14 +28,15 @@ use Rattle.model.proofs.Meets.{meets-answered, meets-read}
 use Rattle.model.proofs.Written.{sound-written}
 use Rattle.cursor.proofs.Gaps.{passes-cursor, gap_same, gap-written}
 use Rattle.cursor.proofs.Nexts.{Next, ahead-entry, ahead-end}
+use Rattle.tree.specs.Steps.{spot}
 
 next-held : {w : List ℕ} {p s : ℕ} → Next w p s → next_of (pool_of w) ≡ some (get_or (held_by (pool_of w)) (gap_by (pool_of w)) no_entry)
 next-held {w} n = next-some (held_by (pool_of w)) (gap_by (pool_of w)) no_entry n.there
 
-module _ {w : List ℕ} {r : Ahead} (pass : 0 ≡ refusal (cursor_tests w)) (finds : FindsAhead w r) where
+module _ {w : List ℕ} {x : std.Option Spot} (pass : 0 ≡ refusal (cursor_tests w)) (finds : FindsAhead w (Ok x)) where
   -- ---- next
 
-  pub next-over : {u : List ℕ} {p s key v : ℕ} → r ≡ ahead.At p s → entry key v ≡ entry_in most (page_in w p) s → u ≡ gap_words 1 1 key w
+  pub next-over : {u : List ℕ} {p s key v : ℕ} → x ≡ Some (spot p s) → entry key v ≡ entry_in most (page_in w p) s → u ≡ gap_words 1 1 key w
       → Meets cursor_next w u (answered (some (entry key v)))
   next-over {key = key} e read laid =
       meets-answered (λ w p. (refl, refl)) keeps-next pass (rw laid (simp length-set))
@@ -49,7 +51,7 @@ module _ {w : List ℕ} {r : Ahead} (pass : 0 ≡ refusal (cursor_tests w)) (fin
         still = λ z. contrary z (ap missing n.next);
       })
 
-  pub next-end : r ≡ ahead.End → Meets cursor_next w w (answered none)
+  pub next-end : x ≡ None → Meets cursor_next w w (answered none)
   next-end e =
       meets-answered (λ w p. (refl, refl)) keeps-next pass refl
       (λ sound.
@@ -66,15 +68,15 @@ module _ {w : List ℕ} {r : Ahead} (pass : 0 ≡ refusal (cursor_tests w)) (fin
   peek-answered : {a : Option Entry} → (Sound w → a ≡ next_of (pool_of w)) → Meets cursor_peek_next w w (answered a)
   peek-answered exact = meets-read cursor_tests next_of (λ w p. (refl, refl)) pass exact
 
-  pub peek-over : {p s key v : ℕ} → r ≡ ahead.At p s → entry key v ≡ entry_in most (page_in w p) s → Meets cursor_peek_next w w (answered (some (entry key v)))
+  pub peek-over : {p s key v : ℕ} → x ≡ Some (spot p s) → entry key v ≡ entry_in most (page_in w p) s → Meets cursor_peek_next w w (answered (some (entry key v)))
   peek-over e read = peek-answered (λ sound. ap some read ∙ sym (ahead-entry finds sound e).next)
 
-  pub peek-end : r ≡ ahead.End → Meets cursor_peek_next w w (answered none)
+  pub peek-end : x ≡ None → Meets cursor_peek_next w w (answered none)
   peek-end e = peek-answered (λ sound. sym (ahead-end finds sound e))
 
   -- ---- write next
 
-  pub write-over : {u : List ℕ} {p s v old : ℕ} → r ≡ ahead.At p s → Writes p s v w u old → Meets (cursor_write_next v) w u (answered (some old))
+  pub write-over : {u : List ℕ} {p s v old : ℕ} → x ≡ Some (spot p s) → Writes p s v w u old → Meets (cursor_write_next v) w u (answered (some old))
   write-over {v = v} e writes =
       meets-answered (λ w p. (refl, refl)) (keeps-write-next v) pass writes.only.long
       (λ sound.
@@ -87,7 +89,7 @@ module _ {w : List ℕ} {r : Ahead} (pass : 0 ≡ refusal (cursor_tests w)) (fin
         still = λ z. contrary z (ap missing n.next);
       })
 
-  pub write-end : (v : ℕ) → r ≡ ahead.End → Meets (cursor_write_next v) w w (answered none)
+  pub write-end : (v : ℕ) → x ≡ None → Meets (cursor_write_next v) w w (answered none)
   write-end v e =
       meets-answered (λ w p. (refl, refl)) (keeps-write-next v) pass refl
       (λ sound. let end = ahead-end finds sound e in record { passes = refl; answers = rw end; holds = rw end (sound-written w sound); still = λ z. refl })

@@ -23,9 +23,8 @@ use Rattle.model.specs.CursorCalls.{cursor_tests}
 use Rattle.model.specs.Source.{member}
 use Rattle.lend.specs.Pages.{least, most, page_in}
 use Rattle.tree.specs.declared.steps.Spot.{Spot}
-use Rattle.tree.specs.declared.steps.Spot.TheVariants as spot
 use Rattle.tree.specs.Search.{aimed}
-use Rattle.tree.specs.Steps.{spot_before}
+use Rattle.tree.specs.Steps.{spot_before, spot}
 use Rattle.cursor.specs.Gap.{aim_of, gap_words, rest_words}
 use Rattle.model.proofs.Cases.{either, either-eq, never}
 use Rattle.model.proofs.Head.{head-facts}
@@ -40,6 +39,7 @@ use Rattle.tree.proofs.Heads.{HeadOnly, head-map, head-page, head-then, head-sto
 use Rattle.tree.proofs.Leaving.{written-today, written-formed}
 use Rattle.tree.proofs.Spots.{spot-some}
 use Rattle.tree.proofs.Writing.{spot-entry}
+use Rattle.std.specs.Prelude.{Some, None, Option}
 
 -- ---- the first tests
 
@@ -122,9 +122,9 @@ module _ (w : List ℕ) (o a k : ℕ) where
 pub gap-long : (o a k : ℕ) (w : List ℕ) → length (gap_words o a k w) ≡ length w
 gap-long o a k w = (laid-head w o a k).long
 
-pub rest-long : (r : Spot) (w : List ℕ) → length (rest_words r w) ≡ length w
-rest-long (spot.At p i) w = gap-long 1 1 _ w
-rest-long spot.End w = gap-long 1 0 0 w
+pub rest-long : (r : Option Spot) (w : List ℕ) → length (rest_words r w) ≡ length w
+rest-long (Some x) w = gap-long 1 1 _ w
+rest-long None w = gap-long 1 0 0 w
 
 pub gap-written : (w : List ℕ) (P : Pool) (c : Cursor) → Written w P → Written (gap_words (open_in c) (after_in c) (key_in (held_by P) c) w) (with_cursor P c)
 unfolding geometry_of
@@ -151,15 +151,15 @@ gap-written w P c a =
     }
 
 -- behind the spot of the entry before gap g
-pub rest-written : (w : List ℕ) (g : ℕ) (r : Spot) → Sound w → g ≤ length (held_by (pool_of w))
+pub rest-written : (w : List ℕ) (g : ℕ) (r : Option Spot) → Sound w → g ≤ length (held_by (pool_of w))
     → r ≡ spot_before (pool_of w).whole.levels (pool_of w).whole.tree g → Written (rest_words r w) (with_cursor (pool_of w) (gap g))
 unfolding held Formed
-rest-written w zero (spot.At p i) s b e = never (cc)
-rest-written w zero spot.End s b e = gap-written w (pool_of w) (gap 0) (sound-written w s)
-rest-written w (suc g) (spot.At p i) s b e =
+rest-written w zero (Some x) s b e = never (cc)
+rest-written w zero None s b e = gap-written w (pool_of w) (gap 0) (sound-written w s)
+rest-written w (suc g) (Some x) s b e =
     let P = pool_of w in
-    let read : entry_in most (page_in w p) i ≡ get_or (held_by P) g no_entry = spot-entry w P (sound-right w s) (sound-written w s) g p i b (sym e) in
-    subst (λ (x : Entry). Written (gap_words 1 1 x.key w) (with_cursor P (gap (suc g)))) (sym read) (gap-written w P (gap (suc g)) (sound-written w s))
-rest-written w (suc g) spot.End s b e =
-    let some = spot-some least 1 (pool_of w).whole.levels (pool_of w).whole.tree g (written-formed (sound-written w s) (sound-right w s)) b (spot.At 0 0) in
+    let read : entry_in most (page_in w x.page) x.slot ≡ get_or (held_by P) g no_entry = spot-entry w P (sound-right w s) (sound-written w s) g x.page x.slot b (sym e) in
+    subst (λ (e : Entry). Written (gap_words 1 1 e.key w) (with_cursor P (gap (suc g)))) (sym read) (gap-written w P (gap (suc g)) (sound-written w s))
+rest-written w (suc g) None s b e =
+    let some = spot-some least 1 (pool_of w).whole.levels (pool_of w).whole.tree g (written-formed (sound-written w s) (sound-right w s)) b (Some (spot 0 0)) in
     never (cc (rw (← e) at some))

@@ -2,14 +2,15 @@
 -- the gap is at the end, and a key fits between the gap's neighbours in code exactly where the model says so. And what
 -- is sought by the gap's aim is that entry, with the gap's path.
 -- Assumes nothing.
-use mathlib.Core.Path.{◌≡◌, sym, ap, ap₂, ◌∙◌}
-use mathlib.Core.Bool.{Bool, true, false}
+use mathlib.Core.Path.{◌≡◌, refl, sym, ap, ap₂, ◌∙◌}
+use mathlib.Core.Bool.{Bool}
 use mathlib.Core.Option.{none, some}
 use mathlib.Core.List.{List, [], ◌∷◌}
 use Prim.Native.Nat.{ℕ, ◌<◌}
 use native.Mathlib.Omega.{arith}
 use lib.ListN.{length, get_or}
 use borrow.Author.Tests.{eq-eqb, ne_eqb}
+use Rattle.std.specs.Prelude.{Ok, Some, None, Option}
 use Rattle.model.specs.Basics.{every}
 use Rattle.model.specs.Head.{open_word, after_word}
 use Rattle.model.specs.Tree.{no_entry, held}
@@ -21,15 +22,12 @@ use Rattle.model.specs.CursorCalls.{next_of, prev_of}
 use Rattle.lend.specs.Pages.{most, page_in}
 use Rattle.tree.specs.declared.search.Aim.{Aim}
 use Rattle.tree.specs.declared.steps.Spot.{Spot}
-use Rattle.tree.specs.declared.steps.Spot.TheVariants as spot
 use Rattle.tree.specs.Search.{Seeks}
 use Rattle.tree.specs.Sits.{PathOf}
-use Rattle.tree.specs.Steps.{spot_of, SpotAfter}
-use Rattle.cursor.specs.declared.ahead.Ahead.{Ahead}
-use Rattle.cursor.specs.declared.ahead.Ahead.TheVariants as ahead
-use Rattle.cursor.specs.Ahead.{spot_ahead, ahead_of, FindsAhead, SeeksAhead, above_named, under_ahead, fits_at}
+use Rattle.tree.specs.Steps.{spot_of, SpotAfter, spot}
+use Rattle.cursor.specs.Ahead.{spot_ahead, FindsAhead, SeeksAhead, above_named, under_ahead, fits_at}
 use Rattle.cursor.specs.Gap.{aim_of}
-use Rattle.model.proofs.Cases.{either-eq, never}
+use Rattle.model.proofs.Cases.{either-eq}
 use Rattle.model.proofs.Head.{head-facts}
 use Rattle.model.proofs.Basics.{next-some, next-none}
 use Rattle.model.proofs.Right.{Right, sound-right}
@@ -37,26 +35,12 @@ use Rattle.tree.proofs.Sitting.{sound-sits}
 use Rattle.tree.proofs.Writing.{spot-there, spot_past}
 use Rattle.cursor.proofs.Gaps.{aim-gap, gap-start, gap-named}
 
--- ---- the spot that is answered
-
-ahead-at : (x : Spot) (p s : ℕ) → ahead_of x ≡ ahead.At p s → x ≡ spot.At p s
-ahead-at (spot.At q i) p s e = cc
-ahead-at spot.End p s e = never (cc)
-
-ahead_none : (x : Spot) → ahead_of x ≡ ahead.End → x ≡ spot.End
-ahead_none (spot.At q i) e = never (cc)
-ahead_none spot.End e = cc
-
-ahead-some : (x : Spot) → ahead_of x ≡ ahead.Unsound → ⊥
-ahead-some (spot.At q i) e = never (cc)
-ahead-some spot.End e = never (cc)
-
 -- ---- the neighbours of the gap
 
 -- the entry after the gap, at slot s of page p
 pub record Next (w : List ℕ) (p s : ℕ) : Type 0 where
   pub there : gap_by (pool_of w) < length (held_by (pool_of w))
-  pub spot : spot_of (pool_of w).whole.levels (pool_of w).whole.tree (gap_by (pool_of w)) ≡ spot.At p s
+  pub spot : spot_of (pool_of w).whole.levels (pool_of w).whole.tree (gap_by (pool_of w)) ≡ Some (spot p s)
   pub entry : entry_in most (page_in w p) s ≡ get_or (held_by (pool_of w)) (gap_by (pool_of w)) no_entry
   pub next : next_of (pool_of w) ≡ some (entry_in most (page_in w p) s)
 
@@ -64,7 +48,7 @@ module _ (w : List ℕ) (sound : Sound w) where
   abbrev right : Right (pool_of w)
   right = sound-right w sound
 
-  spot-next : (p s : ℕ) → spot_ahead w ≡ spot.At p s → Next w p s
+  spot-next : (p s : ℕ) → spot_ahead w ≡ Some (spot p s) → Next w p s
   unfolding spot_ahead
   spot-next p s e =
       let es = held_by (pool_of w) in
@@ -72,7 +56,7 @@ module _ (w : List ℕ) (sound : Sound w) where
       let at = spot-there w sound g right.within e in
       record { there = at.0; spot = e; entry = at.1; next = next-some es g no_entry at.0 ∙ ap some (sym at.1) }
 
-  spot-none : spot_ahead w ≡ spot.End → next_of (pool_of w) ≡ none
+  spot-none : spot_ahead w ≡ None → next_of (pool_of w) ≡ none
   unfolding spot_ahead
   spot-none e = next-none (held_by (pool_of w)) (gap_by (pool_of w)) (spot_past w sound (gap_by (pool_of w)) right.within e)
 
@@ -89,52 +73,41 @@ module _ (w : List ℕ) (sound : Sound w) where
 
 -- ---- what is found there
 
-module _ {w : List ℕ} {r : Ahead} (finds : FindsAhead w r) (sound : Sound w) where
-  pub ahead-entry : {p s : ℕ} → r ≡ ahead.At p s → Next w p s
-  ahead-entry {p} {s} e = spot-next w sound p s (ahead-at (spot_ahead w) p s (sym (finds.exact sound) ∙ e))
+module _ {w : List ℕ} {x : Option Spot} (finds : FindsAhead w (Ok x)) (sound : Sound w) where
+  spot_is : spot_ahead w ≡ x
+  spot_is = cc (finds.exact sound)
 
-  pub ahead-end : r ≡ ahead.End → next_of (pool_of w) ≡ none
-  ahead-end e = spot-none w sound (ahead_none (spot_ahead w) (sym (finds.exact sound) ∙ e))
+  pub ahead-entry : {p s : ℕ} → x ≡ Some (spot p s) → Next w p s
+  ahead-entry {p} {s} e = spot-next w sound p s (spot_is ∙ e)
 
-  pub ahead-unsound : r ≡ ahead.Unsound → ⊥
-  ahead-unsound e = ahead-some (spot_ahead w) (sym (finds.exact sound) ∙ e)
+  pub ahead-end : x ≡ None → next_of (pool_of w) ≡ none
+  ahead-end e = spot-none w sound (spot_is ∙ e)
 
-  under_next : (k : ℕ) (x : Spot) → r ≡ ahead_of x → under_ahead w r k ≡ under (next_of (pool_of w)) k
-  under_next k (spot.At p s) e = rw (e, (ahead-entry e).next)
-  under_next k spot.End e = rw (e, ahead-end e)
+  under_next : (k : ℕ) (y : Option Spot) → x ≡ y → under_ahead w y k ≡ under (next_of (pool_of w)) k
+  under_next k (Some y) e = rw (ahead-entry e).next
+  under_next k None e = rw (ahead-end e)
 
-  pub ahead-fits : (k : ℕ) → fits_at w r k ≡ key_fits k (gap_by (pool_of w)) (held_by (pool_of w))
+  pub ahead-fits : (k : ℕ) → fits_at w x k ≡ key_fits k (gap_by (pool_of w)) (held_by (pool_of w))
   unfolding key_fits
-  ahead-fits k = ap₂ (λ (a b : Bool). every (a ∷ b ∷ [])) (above-named w sound k) (under_next k (spot_ahead w) (finds.exact sound))
+  ahead-fits k = ap₂ (λ (a b : Bool). every (a ∷ b ∷ [])) (above-named w sound k) (under_next k x refl)
 
 -- ---- what is sought
 
-module _ {w ps ss ps' ss' : List ℕ} {aim : Aim} {b : Bool} (from : aim ≡ aim_of w) (path : Seeks w aim ps ss ps' ss' b) where
-  gap-path : Sound w → PathOf (pool_of w).whole.levels (pool_of w).whole.tree (gap_by (pool_of w)) ps' ss'
-  gap-path sound = rw (from, aim-gap w sound) at (path.path sound)
-
-  pub seeks-unsound : b ≡ false → SeeksAhead w ps ss ps' ss' ahead.Unsound
-  seeks-unsound fails = record {
-    pages = path.pages;
-    slots = path.slots;
-    finds = record { within = λ p s q. never (cc); exact = λ sound. never (cc (path.sound sound)) };
-    at = λ p s q. never (cc);
-    end = λ q. never (cc);
-    path = gap-path;
-  }
-
-  -- the spot after the path's gap
-  pub seeks-spot : {x : Spot} {r : Ahead} → b ≡ true → SpotAfter w ps' ss' x → r ≡ ahead_of x → SeeksAhead w ps ss ps' ss' r
-  unfolding spot_ahead held
-  seeks-spot {x} {r} holds after e = record {
-    pages = path.pages;
-    slots = path.slots;
-    finds = record {
-      within = λ p s q. after.within p s (ahead-at x p s (sym e ∙ q));
-      exact = λ sound.
-          e ∙ ap ahead_of (after.exact 1 (pool_of w).whole.levels (pool_of w).whole.tree (gap_by (pool_of w)) (sound-sits w sound) (sound-right w sound).within (gap-path sound));
-    };
-    at = λ p s q. path.inside holds;
-    end = λ q. path.inside holds;
-    path = gap-path;
-  }
+-- the spot after the path's gap
+pub seeks-spot : {w ps ss ps' ss' : List ℕ} {aim : Aim} {x : Option Spot} → aim ≡ aim_of w → Seeks w aim ps ss ps' ss' (Ok tt)
+    → SpotAfter w ps' ss' x → SeeksAhead w ps ss ps' ss' (Ok x)
+unfolding spot_ahead held
+seeks-spot {w} {ps' = ps'} {ss' = ss'} from path after =
+    let way : Sound w → PathOf (pool_of w).whole.levels (pool_of w).whole.tree (gap_by (pool_of w)) ps' ss' =
+    λ sound. rw (from, aim-gap w sound) at (path.path sound) in
+    record {
+      pages = path.pages;
+      slots = path.slots;
+      finds = record {
+        within = λ y q x e. after.within x (cc);
+        exact = λ sound.
+            ap Ok (after.exact 1 (pool_of w).whole.levels (pool_of w).whole.tree (gap_by (pool_of w)) (sound-sits w sound) (sound-right w sound).within (way sound));
+      };
+      inside = λ y q. path.inside refl;
+      path = way;
+    }

@@ -2,14 +2,15 @@
 -- are document 01's; and so opening at the gap of a bound is document 01's call.
 -- Assumes nothing.
 use mathlib.Core.Path.{◌≡◌, refl, sym, ap, subst, ◌∙◌}
-use mathlib.Core.Bool.{Bool, false, cond}
+use mathlib.Core.Bool.{cond}
 use mathlib.Core.Logic.{◌≢◌}
 use mathlib.Core.List.{List}
 use Prim.Native.Nat.{ℕ, zero, suc, ◌≤◌}
 use native.Mathlib.Omega.{arith}
 use lib.Dec.{eqb}
 use lib.ListN.{length}
-use borrow.Author.Tests.{eq-eqb, ne_eqb}
+use borrow.Author.Tests.{ne_eqb}
+use Rattle.std.specs.Prelude.{Result, Ok, Err, Option}
 use Rattle.model.specs.Head.{levels_word, open_word}
 use Rattle.model.specs.Tree.{held}
 use Rattle.model.specs.Bound.{bound_of}
@@ -25,15 +26,10 @@ use Rattle.tree.specs.declared.search.Aim.TheVariants.{Before, After, Start, End
 use Rattle.tree.specs.declared.steps.Spot.{Spot}
 use Rattle.tree.specs.Search.{aimed, Seeks}
 use Rattle.tree.specs.Steps.{SpotBefore}
-use Rattle.map.specs.declared.bound.Bound.{Bound}
-use Rattle.map.specs.declared.bound.Bound.TheVariants as bound
-use Rattle.map.specs.declared.refusal.Refusal.{Refusal}
 use Rattle.map.specs.declared.refusal.Refusal.TheVariants as reason
-use Rattle.map.specs.Answers.{number_of}
+use Rattle.map.specs.declared.refusal.Refusal.{Refusal}
+use Rattle.map.specs.Answers.{number_of, outcome_of, itself}
 use Rattle.map.specs.Bound.{lower_aim, upper_aim}
-use Rattle.cursor.specs.declared.opening.Opened.{Opened}
-use Rattle.cursor.specs.declared.opening.Opened.TheVariants as opened
-use Rattle.cursor.specs.Answers.{opened_of}
 use Rattle.cursor.specs.Gap.{gap_words, rest_words}
 use Rattle.cursor.specs.Open.{aim_read, Opens, opens_at, OpensBy}
 use Rattle.model.proofs.Cases.{contrary, never}
@@ -47,16 +43,18 @@ use Rattle.model.proofs.Reading.{pages-told, pages-refused}
 use Rattle.tree.proofs.Sitting.{sound-sits}
 use Rattle.map.proofs.Answers.{number-some}
 use Rattle.map.proofs.Calling.{meets-refused}
-use Rattle.map.proofs.Spanning.{bound-known, bound-unknown}
+use Rattle.map.proofs.Spanning.{bound-known}
 use Rattle.cursor.proofs.Gaps.{gap-long, rest-long, gap-written, rest-written}
+use Rattle.page.specs.declared.Unsound.{Unsound}
 
 -- ---- at the gap of an aim
 
-module _ {aim : Aim} {w ps ss ps' ss' : List ℕ} {b : Bool} (sought : Seeks w aim ps ss ps' ss' b) where
-  pub opens-unsound : {read : ℕ} → b ≡ false → Opens aim read w w (opened.Refused reason.Unsound)
-  opens-unsound fails = record { long = refl; refused = λ e q. (cc, refl, λ s. contrary (sought.sound s) fails); opens = λ n q. never (cc) }
+module _ {aim : Aim} {w ps ss ps' ss' : List ℕ} {x : Unsound} where
+  pub opens-unsound : {read : ℕ} → Seeks w aim ps ss ps' ss' (Err x) → Opens aim read w w (Err reason.Unsound)
+  opens-unsound sought = record { long = refl; refused = λ e q. (cc, refl, λ s. never (cc (sought.sound s))); opens = λ n q. never (cc) }
 
-  pub opens-sought : {r : Spot} {v : List ℕ} {n : ℕ} → SpotBefore w ps' ss' r → v ≡ rest_words r w → n ≡ levels_word w → Opens aim (levels_word w) w v (opened.Read n)
+module _ {aim : Aim} {w ps ss ps' ss' : List ℕ} (sought : Seeks w aim ps ss ps' ss' (Ok tt)) where
+  pub opens-sought : {r : Option Spot} {v : List ℕ} {n : ℕ} → SpotBefore w ps' ss' r → v ≡ rest_words r w → n ≡ levels_word w → Opens aim (levels_word w) w v (Ok n)
   unfolding held
   opens-sought {r} before laid levels =
       let P = pool_of w in
@@ -71,15 +69,7 @@ module _ {aim : Aim} {w ps ss ps' ss' : List ℕ} {b : Bool} (sought : Seeks w a
         );
       }
 
--- any gap but the start is sought
-pub opens-else : (aim : Aim) (levels : ℕ) {w v : List ℕ} {r : Opened} → (aim ≡ Start → ⊥) → Opens aim levels w v r
-    → Opens aim (aim_read aim levels) w v r
-opens-else (Before k) levels other opens = opens
-opens-else (After k) levels other opens = opens
-opens-else Start levels other opens = absurd (other refl)
-opens-else End levels other opens = opens
-
-pub opens-start : {aim : Aim} {w v : List ℕ} → aim ≡ Start → v ≡ gap_words 1 0 0 w → Opens aim (aim_read aim (levels_word w)) w v (opened.Read 0)
+pub opens-start : {aim : Aim} {w v : List ℕ} → aim ≡ Start → v ≡ gap_words 1 0 0 w → Opens aim (aim_read aim (levels_word w)) w v (Ok 0)
 opens-start {w = w} start laid =
     let P = pool_of w in
     rw (start, laid) record {
@@ -106,15 +96,15 @@ module _ (kind : ℕ) (aim : Aim) where
   unfolding pool_of
   keeps-open w s e = open-right (pool_of w) (sound-right w s) (of-kind w map_kind _ e).1 (aimed aim)
 
-  pages-open : {w v : List ℕ} (r : Opened) → 0 ≡ refusal (open_tests kind w) → Opens aim (aim_read aim (levels_word w)) w v r
-      → ReadsPages (opens_at kind aim) (λ n. n) w v (opened_of r)
+  pages-open : {w v : List ℕ} (r : Result ℕ Refusal) → 0 ≡ refusal (open_tests kind w) → Opens aim (aim_read aim (levels_word w)) w v r
+      → ReadsPages (opens_at kind aim) (λ n. n) w v (outcome_of itself r)
   unfolding pool_of whole_of
-  pages-open {w} (opened.Read n) pass opens =
+  pages-open {w} (Ok n) pass opens =
       let o = opens.opens n refl in
       pages-told
       (meets-answered (λ w p. (refl, refl)) keeps-open pass opens.long (λ s. record { passes = refl; answers = o.0; holds = o.1 s; still = λ z. contrary z refl }))
       (omega (arith, o.0, aim-few aim (levels_word w)))
-  pages-open {w} {v} (opened.Refused e) pass opens =
+  pages-open {w} {v} (Err e) pass opens =
       let o = opens.refused e refl in
       pages-refused (subst (λ (x : Refusal). Meets (opens_at kind aim) w v (refused (number_of x))) (sym o.0) (meets-unsound (λ w p. (refl, refl)) keeps-open pass (o.1, o.2)))
 
@@ -122,26 +112,17 @@ module _ (kind : ℕ) (aim : Aim) where
 open-last : (kind : ℕ) (w : List ℕ) → 0 ≡ refusal (read_tests map_kind w) → refusal (open_tests kind w) ≡ cond (no_bound kind) 3 (cond (eqb (open_word w) 1) 4 0)
 open-last kind w pass = reading-passed map_kind w _ pass
 
-module _ {b : Bound} {w : List ℕ} where
-  pub by-refused : (n : Refusal) → number_of n ≡ refusal (read_tests map_kind w) → OpensBy b w w (opened.Refused n)
+module _ {b : Result Aim Refusal} {w : List ℕ} where
+  pub by-refused : (n : Refusal) → number_of n ≡ refusal (read_tests map_kind w) → OpensBy b w w (Err n)
   by-refused n e kind aim said =
       pages-refused (meets-refused (opens_at kind aim) w n (λ w p. (refl, refl)) (reading-first map_kind w _ (number_of n) (number-some n) e))
 
   module _ (pass : 0 ≡ refusal (read_tests map_kind w)) where
-    pub by-unknown : b ≡ bound.Unknown → OpensBy b w w (opened.Refused reason.BadBound)
-    by-unknown is kind aim said =
-        pages-refused (meets-refused (opens_at kind aim) w reason.BadBound (λ w p. (refl, refl)) (sym (open-last kind w pass ∙ rw (bound-unknown kind aim said is))))
-
-    module _ {a : Aim} (is : b ≡ bound.At a) where
-      pub by-opened : open_word w ≡ 1 → OpensBy b w w (opened.Refused reason.Opened)
-      by-opened one kind aim said =
-          pages-refused (meets-refused (opens_at kind aim) w reason.Opened (λ w p. (refl, refl))
-          (sym (open-last kind w pass ∙ rw ((bound-known kind aim said is).0, eq-eqb (open_word w) 1 one))))
-
-      pub by-at : {v : List ℕ} {r : Opened} → open_word w ≢ 1 → Opens a (aim_read a (levels_word w)) w v r → OpensBy b w v r
+    module _ {a : Aim} (is : b ≡ Ok a) where
+      pub by-at : {v : List ℕ} {r : Result ℕ Refusal} → open_word w ≢ 1 → Opens a (aim_read a (levels_word w)) w v r → OpensBy b w v r
       by-at {v} {r} shut opens kind aim said =
           let known = bound-known kind aim said is in
-          subst (λ (x : Aim). ReadsPages (opens_at kind x) (λ n. n) w v (opened_of r)) (sym known.1)
+          subst (λ (x : Aim). ReadsPages (opens_at kind x) (λ n. n) w v (outcome_of itself r)) (sym known.1)
           (pages-open kind a r (sym (open-last kind w pass ∙ rw (known.0, ne_eqb (open_word w) 1 shut))) opens)
 
 -- ---- document 01's calls, bound by bound

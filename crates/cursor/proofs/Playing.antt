@@ -11,6 +11,8 @@ use native.Mathlib.Nat.{add-zero}
 use native.Mathlib.Numerals.{add-one}
 use native.Mathlib.Omega.{arith}
 use lib.ListN.{length, take, drop, set, length-take, length-map, length-set}
+use Rattle.std.specs.Prelude as std
+use Rattle.std.specs.Prelude.{Some, None, Result, Ok, Err}
 use lib.Seq.{take_all, length-take-le}
 use Rattle.model.specs.Tree.{Entry, entry}
 use Rattle.model.specs.Entries.{gap, next, forth}
@@ -20,31 +22,29 @@ use Rattle.model.specs.Refusal.{refusal}
 use Rattle.model.specs.Call.{refused, answered, Meets}
 use Rattle.model.specs.ListCalls.{key_column, value_column}
 use Rattle.model.specs.CursorCalls.{cursor_tests, cursor_next, next_of, missing}
-use Rattle.map.specs.declared.list.Listed.{Listed}
-use Rattle.map.specs.declared.list.Listed.TheVariants as listed
+use Rattle.page.specs.declared.Entry.{Entry as EntryBy}
 use Rattle.map.specs.declared.refusal.Refusal.{Refusal}
 use Rattle.map.specs.declared.refusal.Refusal.TheVariants as reason
-use Rattle.map.specs.Answers.{number_of, listed_of}
+use Rattle.map.specs.Answers.{number_of, outcome_of, itself}
 use Rattle.map.specs.List.{laid}
-use Rattle.cursor.specs.declared.Step.{Step}
-use Rattle.cursor.specs.declared.Step.TheVariants as step
-use Rattle.cursor.specs.Answers.{step_of}
+use Rattle.cursor.specs.Answers.{entry_of}
 use Rattle.model.specs.Playback.{Plays}
 use Rattle.cursor.specs.Playback.{PlayStops}
 use Rattle.model.proofs.Cases.{never, contrary}
-use Rattle.map.proofs.Answers.{number-some, nine-unsound}
+use Rattle.map.proofs.Answers.{nine-unsound, outcome-refused}
 use Rattle.map.proofs.Listing.{laid_none, laid-entry, behind-some, behind-none}
-use Rattle.map.proofs.Spanning.{listed-refused, laid-written}
+use Rattle.map.proofs.Spanning.{laid-written}
 use Rattle.model.proofs.Meets.{gap-passes}
 use Rattle.cursor.proofs.Gaps.{passes-cursor, gap_same}
 
 -- ---- what a next answers
 
 -- what is no entry is the end
-step_end : (r : Step) (o : Option Entry) → step_of r ≡ answered o → ((k v : ℕ) → r ≡ step.Entry k v → ⊥) → (r ≡ step.End) × (none ≡ o)
-step_end (step.Entry k v) o e other = absurd (other k v refl)
-step_end step.End o e other = (refl, cc)
-step_end (step.Refused n) o e other = never (cc)
+step_end : (r : Result (std.Option EntryBy) Refusal) (o : Option Entry) → outcome_of entry_of r ≡ answered o → ((e : EntryBy) → r ≡ Ok (Some e) → ⊥)
+    → (r ≡ Ok None) × (none ≡ o)
+step_end (Ok (Some e)) o is other = absurd (other e refl)
+step_end (Ok None) o is other = (refl, cc)
+step_end (Err n) o is other = never (cc)
 
 -- ---- playback after i entries
 
@@ -90,17 +90,17 @@ played-none {n} {w} ks vs pass room = record {
 
 module _ {n : ℕ} {w₀ ks₀ vs₀ w ks vs : List ℕ} {i : ℕ} (played : Played n w₀ ks₀ vs₀ w ks vs i) where
   -- all that were asked for, or that there are
-  played-wrote : {w' : List ℕ} {a : Listed} → length w' ≡ length w
-      → ((e : Refusal) → a ≡ listed.Refused e → (e ≡ reason.Unsound) × (w' ≡ w₀) × (i ≡ 0))
-      → (Sound w₀ → (w' ≡ w) × (a ≡ listed.Wrote i) × (take n (behind w₀) ≡ take i (behind w₀)))
-      → Plays w₀ w' (key_column ks₀ ks ∷ value_column vs₀ vs ∷ []) (listed_of a)
+  played-wrote : {w' : List ℕ} {a : Result ℕ Refusal} → length w' ≡ length w
+      → ((e : Refusal) → a ≡ Err e → (e ≡ reason.Unsound) × (w' ≡ w₀) × (i ≡ 0))
+      → (Sound w₀ → (w' ≡ w) × (a ≡ Ok i) × (take n (behind w₀) ≡ take i (behind w₀)))
+      → Plays w₀ w' (key_column ks₀ ks ∷ value_column vs₀ vs ∷ []) (outcome_of itself a)
   played-wrote {w'} {a} long kept ends = record {
     long = (long ∙ played.long.0, (played.long.1, (played.long.2, tt)));
     early = λ m p. absurd (omega (arith, played.pass));
-    late = λ m _ q. listed-refused a m q (λ e is number. sym number ∙ ap number_of (kept e is).0);
-    kept = λ m q. listed-refused a m q (λ e is _. let k = kept e is in let none = played.none k.2 in (k.1, (none.1, (none.2, tt))));
+    late = λ m _ q. outcome-refused itself a m q (λ e is number. sym number ∙ ap number_of (kept e is).0);
+    kept = λ m q. outcome-refused itself a m q (λ e is _. let k = kept e is in let none = played.none k.2 in (k.1, (none.1, (none.2, tt))));
     sound = λ s. rw (ends s).0 (played.along s).sound;
-    exact = λ s _. rw (← short) (ap listed_of (ends s).1 ∙ ap answered (sym (many s)));
+    exact = λ s _. rw (← short) (ap (outcome_of itself) (ends s).1 ∙ ap answered (sym (many s)));
     writes = λ s _.
         let a = played.along s in
         rw (← short, (ends s).2) (
@@ -124,9 +124,9 @@ module _ {n : ℕ} {w₀ ks₀ vs₀ w ks vs : List ℕ} {i : ℕ} (played : Pla
   pub played-full : n ≤ i → Plays w₀ w (key_column ks₀ ks ∷ value_column vs₀ vs ∷ []) (answered n)
   played-full l =
       let all : n ≡ i = omega (arith, played.few) in
-      played-wrote {a = listed.Wrote n} refl (λ e z. never (cc)) (λ s. (refl, ap listed.Wrote all, ap (λ (j : ℕ). take j (behind w₀)) all))
+      played-wrote {a = Ok n} refl (λ e z. never (cc)) (λ s. (refl, ap Ok all, ap (λ (j : ℕ). take j (behind w₀)) all))
 
-  module _ {w' : List ℕ} (r : Step) (m : Meets cursor_next w w' (step_of r)) where
+  module _ {w' : List ℕ} (r : Result (std.Option EntryBy) Refusal) (m : Meets cursor_next w w' (outcome_of entry_of r)) where
     -- a sound pool passes the tests again: its cursor is still in a gap
     again : Sound w₀ → refusal (cursor_tests w) ≡ 0
     again s = let a = played.along s in gap-passes w a.sound (ap (λ (p : Pool). p.cursor) a.holds)
@@ -134,7 +134,7 @@ module _ {n : ℕ} {w₀ ks₀ vs₀ w ks vs : List ℕ} {i : ℕ} (played : Pla
     next-is : Sound w₀ → next_of (pool_of w) ≡ next_at w₀ i
     next-is s = ap next_of (played.along s).holds
 
-    answer-is : Sound w₀ → step_of r ≡ answered (next_at w₀ i)
+    answer-is : Sound w₀ → outcome_of entry_of r ≡ answered (next_at w₀ i)
     answer-is s = m.exact (played.along s).sound ∙ rw (again s) (ap answered (next-is s))
 
     left_is : Sound w₀ → pool_of w' ≡ with_cursor (pool_of w₀) (gap (forth (next_at w₀ i) (gap_by (pool_of w₀) + i)))
@@ -143,21 +143,21 @@ module _ {n : ℕ} {w₀ ks₀ vs₀ w ks vs : List ℕ} {i : ℕ} (played : Pla
         ∙ rw (again s) (ap (λ (p : Pool). with_cursor p (gap (forth (next_of p) (gap_by p)))) (played.along s).holds)
 
     -- one more
-    pub played-more : {k v : ℕ} → r ≡ step.Entry k v → i < n → Played n w₀ ks₀ vs₀ w' (set ks i k) (set vs i v) (i + 1)
-    played-more {k} {v} e l = record {
+    pub played-more : {e : EntryBy} → r ≡ Ok (Some e) → i < n → Played n w₀ ks₀ vs₀ w' (set ks i e.key) (set vs i e.value) (i + 1)
+    played-more {e} is l = record {
       pass = played.pass;
       room = played.room;
       few = omega arith;
-      long = (m.long ∙ played.long.0, length-set ks i k ∙ played.long.1, length-set vs i v ∙ played.long.2);
+      long = (m.long ∙ played.long.0, length-set ks i e.key ∙ played.long.1, length-set vs i e.value ∙ played.long.2);
       none = λ z. absurd (omega arith);
       along = λ s.
           let a = played.along s in
-          let is : some (entry k v) ≡ next_at w₀ i = let told = sym (ap step_of e) ∙ answer-is s in cc in
-          let here = behind-some (held_by (pool_of w₀)) (gap_by (pool_of w₀)) i is in
+          let it : some (entry e.key e.value) ≡ next_at w₀ i = let told = sym (ap (outcome_of entry_of) is) ∙ answer-is s in cc in
+          let here = behind-some (held_by (pool_of w₀)) (gap_by (pool_of w₀)) i it in
           let one : gap_by (pool_of w₀) + (i + 1) ≡ suc (gap_by (pool_of w₀) + i) = omega arith in
           record {
             sound = m.sound a.sound;
-            holds = left_is s ∙ rw (← is, one);
+            holds = left_is s ∙ rw (← it, one);
             few = omega (arith, here.0);
             keys = rw add-one (ap (λ (x : Entry). set ks i x.key) (sym here.1) ∙ laid-entry (λ x. x.key) (behind w₀) i ks₀ ks here.0 a.keys);
             values = rw add-one (ap (λ (x : Entry). set vs i x.value) (sym here.1) ∙ laid-entry (λ x. x.value) (behind w₀) i vs₀ vs here.0 a.values);
@@ -165,15 +165,15 @@ module _ {n : ℕ} {w₀ ks₀ vs₀ w ks vs : List ℕ} {i : ℕ} (played : Pla
     }
 
     -- a first next is refused past the tests, so for one reason
-    refused-first : {e : Refusal} → r ≡ step.Refused e → i ≡ 0 → (e ≡ reason.Unsound) × (w' ≡ w₀)
+    refused-first : {e : Refusal} → r ≡ Err e → i ≡ 0 → (e ≡ reason.Unsound) × (w' ≡ w₀)
     refused-first {e} q z =
         let first = (played.none z).0 in
-        let said : step_of r ≡ refused (number_of e) = ap step_of q in
+        let said : outcome_of entry_of r ≡ refused (number_of e) = ap (outcome_of entry_of) q in
         let pass : refusal (cursor_tests w) ≡ 0 = rw first played.pass in
         (nine-unsound e (⊎_elim (λ n. n) (λ no. contrary no refl) (m.late (number_of e) pass said)), m.kept (number_of e) said ∙ first)
 
     -- there is no next entry
-    pub played-end : {a : Listed} → ((k v : ℕ) → r ≡ step.Entry k v → ⊥) → PlayStops r i a → Plays w₀ w' (key_column ks₀ ks ∷ value_column vs₀ vs ∷ []) (listed_of a)
+    pub played-end : {a : Result ℕ Refusal} → ((e : EntryBy) → r ≡ Ok (Some e) → ⊥) → PlayStops r i a → Plays w₀ w' (key_column ks₀ ks ∷ value_column vs₀ vs ∷ []) (outcome_of itself a)
     played-end {a} other stop =
         played-wrote {a = a} m.long
         (λ e z.
@@ -188,21 +188,3 @@ module _ {n : ℕ} {w₀ ks₀ vs₀ w ks vs : List ℕ} {i : ℕ} (played : Pla
           stop.wrote end.0,
           take_all n (behind w₀) (omega arith) ∙ sym (take_all i (behind w₀) past),
         ))
-
--- ---- the call
-
--- the first tests refuse
-pub plays-refused : {w ks vs : List ℕ} (e : Refusal) → number_of e ≡ refusal (cursor_tests w) → Plays w w (key_column ks ks ∷ value_column vs vs ∷ []) (refused (number_of e))
-plays-refused e q =
-    let some = number-some e in
-    record {
-      long = (refl, (refl, (refl, tt)));
-      early = λ m p. ap refused (q ∙ p);
-      late = λ m p _. absurd (omega arith);
-      kept = λ m _. (refl, (refl, (refl, tt)));
-      sound = λ s. s;
-      exact = λ _ p. absurd (omega arith);
-      writes = λ _ p. absurd (omega arith);
-      holds = λ _ p. absurd (omega arith);
-      still = λ _ _ _. refl;
-    }

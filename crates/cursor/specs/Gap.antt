@@ -1,13 +1,12 @@
 -- The gap in code: where a search finds it, by head words 6 and 7, and the words once it is laid elsewhere.
 -- Assumes nothing: these are definitions.
-use Rattle.std.specs.Prelude.{cond, List, ℕ, eqb, set}
+use Rattle.std.specs.Prelude.{cond, List, ℕ, eqb, set, Some, None, Option}
 use Rattle.model.specs.Head.{after_word, key_word}
 use Rattle.model.specs.Page.{entry_in}
 use Rattle.lend.specs.Pages.{most, page_in}
 use Rattle.tree.specs.declared.search.Aim.{Aim}
 use Rattle.tree.specs.declared.search.Aim.TheVariants.{After, Start}
 use Rattle.tree.specs.declared.steps.Spot.{Spot}
-use Rattle.tree.specs.declared.steps.Spot.TheVariants as spot
 
 -- at the start, or just after the entry whose key is named
 abbrev pub aim_of : List ℕ → Aim
@@ -18,6 +17,6 @@ abbrev pub gap_words : ℕ → ℕ → ℕ → List ℕ → List ℕ
 gap_words opened after key w = set (set (set w 5 opened) 6 after) 7 key
 
 -- of an open cursor, just behind the entry at a spot, or at the start
-abbrev pub rest_words : Spot → List ℕ → List ℕ
-rest_words (spot.At p s) w = gap_words 1 1 (entry_in most (page_in w p) s).key w
-rest_words spot.End w = gap_words 1 0 0 w
+abbrev pub rest_words : Option Spot → List ℕ → List ℕ
+rest_words (Some x) w = gap_words 1 1 (entry_in most (page_in w x.page) x.slot).key w
+rest_words None w = gap_words 1 0 0 w

@@ -1,4 +1,4 @@
--- What the cursor's contracts cite: what the answers say, the gap's words, the entry after the gap, opening, playback.
+-- What the cursor's contracts cite: what an entry says, the gap's words, the entry after the gap, opening, playback.
 pub mod Answers
 pub mod Gap
 pub mod Ahead

@@ -1,13 +1,10 @@
 -- Playback in code: how it ends with no further entry. (Its promise: model, Playback.)
 -- Assumes nothing: these are definitions.
-use Rattle.std.specs.Prelude.{◌≡◌, ℕ}
-use Rattle.map.specs.declared.list.Listed.{Listed}
-use Rattle.map.specs.declared.list.Listed.TheVariants as listed
+use Rattle.std.specs.Prelude.{◌≡◌, ℕ, Option, None, Result, Ok, Err}
+use Rattle.page.specs.declared.Entry.{Entry}
 use Rattle.map.specs.declared.refusal.Refusal.{Refusal}
-use Rattle.cursor.specs.declared.Step.{Step}
-use Rattle.cursor.specs.declared.Step.TheVariants as step
 
 -- after n entries
-pub record PlayStops (s : Step) (n : ℕ) (r : Listed) : Type 0 where
-  pub wrote : s ≡ step.End → r ≡ listed.Wrote n
-  pub stops : (e : Refusal) → r ≡ listed.Refused e → (s ≡ step.Refused e) × (n ≡ 0)
+pub record PlayStops (s : Result (Option Entry) Refusal) (n : ℕ) (r : Result ℕ Refusal) : Type 0 where
+  pub wrote : s ≡ Ok None → r ≡ Ok n
+  pub stops : (e : Refusal) → r ≡ Err e → (s ≡ Err e) × (n ≡ 0)

@@ -5,33 +5,22 @@ ghost use Rattle.cursor.specs.Ahead.{FindsAhead, SeeksAhead};
 
 use crate::gap;
 use model::MOST_LEVELS;
+use page::Unsound;
 use tree::steps::Spot;
 
-// Its page and slot, or that there is none.
-#[derive(Clone, Copy)]
-pub enum Ahead {
-    At(usize, usize),
-    End,
-    Unsound,
-}
-
-// The gap's path, and the entry after it.
-pub fn seek(pool: &[u64], pages: &mut [usize], slots: &mut [usize]) -> Ahead
+// The gap's path, and where the entry after it stands, if there is one.
+pub fn seek(pool: &[u64], pages: &mut [usize], slots: &mut [usize]) -> Result<Option<Spot>, Unsound>
     requires pool_value { headed pool.now ≡ true }
     requires pages_len { (length pages.old ≡ levels_word pool.now) × (length slots.old ≡ levels_word pool.now) }
     ensures { SeeksAhead pool.now pages.old slots.old pages.new slots.new result }
 {
     let from = gap::aim(pool);
-    if !tree::search::seek(pool, from, pages, slots) {
-        return Ahead::Unsound;
-    }
-    match tree::steps::spot_after(pool, pages, slots) {
-        Spot::At(p, slot) => Ahead::At(p, slot),
-        Spot::End => Ahead::End,
-    }
+    tree::search::seek(pool, from, pages, slots)?;
+    Ok(tree::steps::spot_after(pool, pages, slots))
 }
 
-pub fn find(pool: &[u64]) -> Ahead
+// Where the entry after the gap stands, if there is one.
+pub fn find(pool: &[u64]) -> Result<Option<Spot>, Unsound>
     requires { headed pool.now ≡ true }
     ensures { FindsAhead pool.now result }
 {

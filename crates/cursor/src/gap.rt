@@ -10,23 +10,20 @@ ghost use Rattle.map.specs.Answers.{early_number};
 ghost use Rattle.cursor.specs.Gap.{aim_of, gap_words, rest_words};
 
 use map::refusal;
-use map::refusal::{Early, MAP, Refusal};
+use map::refusal::{MAP, Refusal};
 use model::{AFTER, KEY, OPEN};
 use tree::search::Aim;
 use tree::steps::Spot;
 
-// What the first tests say of a cursor call other than open.
-pub fn ready(pool: &[u64]) -> Early
+// Past the first tests of a cursor call other than open.
+pub fn ready(pool: &[u64]) -> Result<(), Refusal>
     ensures { early_number result ≡ refusal (cursor_tests pool.now) }
 {
-    match refusal::reading(pool, MAP) {
-        Early::Refused(n) => return Early::Refused(n),
-        Early::Pass => {}
-    }
+    refusal::reading(pool, MAP)?;
     if pool[OPEN] == 0 {
-        return Early::Refused(Refusal::Closed);
+        return Err(Refusal::Closed);
     }
-    Early::Pass
+    Ok(())
 }
 
 // Where a search finds it.
@@ -53,16 +50,16 @@ pub fn lay(pool: &mut [u64], opened: u64, after: u64, key: u64)
 }
 
 // An open cursor's gap just behind the entry at a spot, or at the start.
-pub fn rest(pool: &mut [u64], behind: Spot)
+pub fn rest(pool: &mut [u64], behind: Option<Spot>)
     requires pool_value { headed pool.old ≡ true }
     requires within { Within pool.old behind }
     ensures { pool.new ≡ rest_words behind pool.old }
 {
     match behind {
-        Spot::At(p, slot) => {
-            let e = lend::pages::entry_at(pool, p, slot);
+        Some(spot) => {
+            let e = lend::pages::entry_at(pool, spot.page, spot.slot);
             lay(pool, 1, 1, e.key);
         }
-        Spot::End => lay(pool, 1, 0, 0),
+        None => lay(pool, 1, 0, 0),
     }
 }

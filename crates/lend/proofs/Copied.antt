@@ -15,7 +15,8 @@ use Rattle.model.specs.Page.{count_of, height_of, entry_in, child_in, entries_of
 use Rattle.model.specs.Standing.{Holds}
 use Rattle.model.specs.Insert.{cut_left, cut_right}
 use Rattle.model.specs.Mend.{glue}
-use Rattle.page.specs.declared.Change.{Change}
+use Rattle.std.specs.Prelude.{Result}
+use Rattle.page.specs.declared.Unsound.{Unsound}
 use Rattle.page.specs.Node.{alone, more, wider}
 use Rattle.page.specs.Page.{room_at, full_at}
 use Rattle.lend.specs.Pages.{most, keeps, OnlyPages, node_in, Becomes, ChangesIn, page_in}
@@ -36,13 +37,18 @@ module _ {p h : ℕ} {w₀ w : List ℕ} (y : Node ℕ) (forks : length y.childr
       let one = cut-one 0 y forks some in
       record { holds = holds_as (cut_left 1 y) (rw ee one.0) (rw (ea, eb) one.1) c; only = o }
 
+  -- there is room for the next
+  pub copied-room : {n : ℕ} → n < length y.own → 1 ≤ n → n < most → Copied p h y n w₀ w → (slot at : ℕ) → slot ≡ n → at ≡ suc n → room_at most (page_in w p) slot at ≡ true
+  copied-room {n} inside some few k slot at es ea =
+      let many : count_of (page_in w p) ≡ n = holds-count k.holds ∙ length-take-le n y.own (omega arith) in
+      room-at most (page_in w p) slot at (omega arith) (omega arith) (omega arith) (omega arith)
+
   -- one turn
-  pub copied_more : {w' : List ℕ} {r : Change} (n slot at : ℕ) (e : Entry) (c : ℕ) → n < length y.own → 1 ≤ n → n < most → slot ≡ n → at ≡ suc n
+  pub copied_more : {w' : List ℕ} {r : Result (Unit {0}) Unsound} (n slot at : ℕ) (e : Entry) (c : ℕ) → n < length y.own → 1 ≤ n → n < most → slot ≡ n → at ≡ suc n
       → e ≡ get_or y.own n no_entry → c ≡ get_or y.children (suc n) 0 → Copied p h y n w₀ w
       → ChangesIn p (room_at most (page_in w p) slot at) (more slot e at c (node_in w p)) w w' r → Copied p h y (suc n) w₀ w'
   copied_more {w'} n slot at e c inside some few es ea ee ec k d =
-      let many : count_of (page_in w p) ≡ n = holds-count k.holds ∙ length-take-le n y.own (omega arith) in
-      let room : room_at most (page_in w p) slot at ≡ true = room-at most (page_in w p) slot at (omega arith) (omega arith) (omega arith) (omega arith) in
+      let room : room_at most (page_in w p) slot at ≡ true = copied-room inside some few k slot at es ea in
       let after : Holds most h (more n e (suc n) c (node_in w p)) (page_in w' p) = rw (k.holds.height, es, ea) at (d.holds room) in
       record {
         holds = rw (cut-grows 0 y forks n inside, ← ee, ← ec) (holds_more most h n (suc n) c p e (cut_left n y) (page_in w p) (page_in w' p) k.holds after);
@@ -81,7 +87,12 @@ module _ (w : List ℕ) (l r n : ℕ) (many : count_of (page_in w l) ≡ n + 1) 
         only = only_none (l ∷ []) refl;
       }
 
-  pub joining-more : {w₁ w₂ : List ℕ} {a : Change} (j : ℕ) (x : Entry) (c : ℕ) → l ≢ r → j < count_of (page_in w r) → n + 1 + j < most
+  pub joining-room : {w₁ : List ℕ} (j : ℕ) → j < count_of (page_in w r) → n + 1 + j < most → Joining l r (n + 1 + j) w w₁
+      → room_at most (page_in w₁ l) (n + 1 + j) (n + 2 + j) ≡ true
+  joining-room j inside room k =
+      copied-room (chained w l r) chained-forks (omega (arith, chained-own)) (omega arith) room k (n + 1 + j) (n + 2 + j) refl (omega arith)
+
+  pub joining-more : {w₁ w₂ : List ℕ} {a : Result (Unit {0}) Unsound} (j : ℕ) (x : Entry) (c : ℕ) → l ≢ r → j < count_of (page_in w r) → n + 1 + j < most
       → x ≡ entry_in most (page_in w₁ r) j → c ≡ child_in most (page_in w₁ r) (j + 1) → Joining l r (n + 1 + j) w w₁
       → ChangesIn l (room_at most (page_in w₁ l) (n + 1 + j) (n + 2 + j)) (more (n + 1 + j) x (n + 2 + j) c (node_in w₁ l)) w₁ w₂ a → Joining l r (n + 1 + (j + 1)) w w₂
   joining-more {w₁} {w₂} j x c apart inside room ex ec k d =
@@ -109,7 +120,7 @@ pub record Begun (l r n m : ℕ) (e : Entry) (w w₁ : List ℕ) : Type 0 where
   pub end : (w₂ : List ℕ) (j : ℕ) → m ≤ j → Joining l r (n + 1 + j) w₁ w₂
       → Becomes l (glue (node_in w l) e (node_in w r)) w w₂ × OnlyPages (l ∷ []) w w₂
 
-pub begins : (w : List ℕ) (l r n m : ℕ) (e : Entry) (c : ℕ) {w₁ : List ℕ} {a : Change} → l ≢ r → n ≡ count_of (page_in w l) → m ≡ count_of (page_in w r) → 1 ≤ n → n + m < most
+pub begins : (w : List ℕ) (l r n m : ℕ) (e : Entry) (c : ℕ) {w₁ : List ℕ} {a : Result (Unit {0}) Unsound} → l ≢ r → n ≡ count_of (page_in w l) → m ≡ count_of (page_in w r) → 1 ≤ n → n + m < most
     → c ≡ child_in most (page_in w r) 0 → ChangesIn l (room_at most (page_in w l) n (n + 1)) (more n e (n + 1) c (node_in w l)) w w₁ a → Begun l r n m e w w₁
 begins w l r n m e c {w₁} apart en em some few first d =
     let es : List Entry = entries_of most (page_in w l) in
@@ -167,7 +178,11 @@ module _ (w : List ℕ) (p q slot : ℕ) (e : Entry) (child : ℕ) (full : full_
       let long : length (children_of most (page_in w p)) ≡ 10 = length-children most (page_in w p) ∙ ap suc f.0 in
       length-drop 6 cs ∙ omega (arith, half-own, length-ins (suc slot) child (children_of most (page_in w p)) (omega arith))
 
-  pub giving-more : {w₁ w₂ : List ℕ} {a : Change} (j : ℕ) (x : Entry) (c : ℕ) → p ≢ q → 1 ≤ j → j < 4
+  pub giving-room : {w₁ : List ℕ} (j : ℕ) → 1 ≤ j → j < 4 → Giving p q slot e child j w w₁ → room_at most (page_in w₁ q) j (j + 1) ≡ true
+  giving-room j some inside k =
+      copied-room (half w p q slot e child) half-forks (omega (arith, half-own)) some (omega arith) k j (j + 1) refl (omega arith)
+
+  pub giving-more : {w₁ w₂ : List ℕ} {a : Result (Unit {0}) Unsound} (j : ℕ) (x : Entry) (c : ℕ) → p ≢ q → 1 ≤ j → j < 4
       → x ≡ get_or (ins slot e (entries_of most (page_in w₁ p))) (6 + j) no_entry → c ≡ get_or (ins (suc slot) child (children_of most (page_in w₁ p))) (7 + j) 0
       → Giving p q slot e child j w w₁
       → ChangesIn q (room_at most (page_in w₁ q) j (j + 1)) (more j x (j + 1) c (node_in w₁ q)) w₁ w₂ a → Giving p q slot e child (j + 1) w w₂

@@ -1,8 +1,8 @@
 -- The law of a lent page: from the law of a lent part (`page`'s `Parts`), at a page's start and size. What a callee
 -- says of the page that it was lent is said of the pool; and pages lent one after the other are one change.
 -- Assumes nothing.
-use mathlib.Core.Path.{◌≡◌, sym, ap, ◌∙◌, subst₂}
-use mathlib.Core.Bool.{Bool}
+use mathlib.Core.Path.{◌≡◌, refl, sym, ap, ◌∙◌, subst₂}
+use mathlib.Core.Bool.{Bool, true}
 use mathlib.Core.Logic.{◌≢◌}
 use mathlib.Core.List.{List, [], ◌∷◌, ◌++◌}
 use Prim.Native.Nat.{ℕ, suc, ◌+◌, ◌-◌, ◌≤◌, ◌<◌}
@@ -15,10 +15,11 @@ use Rattle.model.specs.Tree.{Entry, Node, no_entry}
 use Rattle.model.specs.Page.{count_of, entry_in, child_in, entries_of, children_of, page_at}
 use Rattle.model.specs.Standing.{Holds}
 use Rattle.model.specs.Insert.{cut_left}
-use Rattle.page.specs.declared.Change.{Change}
-use Rattle.page.specs.declared.Parting.{Parting}
+use Rattle.std.specs.Prelude.{Result, IsOk}
+use Rattle.page.specs.declared.Entry as lent
+use Rattle.page.specs.declared.Unsound.{Unsound}
 use Rattle.page.specs.Runs.{part, with_run, Changed}
-use Rattle.page.specs.Page.{Changes, Splits, parted}
+use Rattle.page.specs.Page.{did, Changes, Splits, parted}
 use Rattle.lend.specs.Pages.{most, keeps, Inside, OnlyPages, ChangesIn, KeepsIn, page_in}
 use Rattle.model.proofs.Cases.{either_lt}
 use Rattle.model.proofs.Basics.{all_left, all_right, get_or-tab}
@@ -59,6 +60,11 @@ only_wider qs c f = record { long = c.long; front = c.front; others = λ q h. c.
 -- the same page twice
 pub only-again : {p : ℕ} {w w₁ w₂ : List ℕ} → OnlyPages (p ∷ []) w w₁ → OnlyPages (p ∷ []) w₁ w₂ → OnlyPages (p ∷ []) w w₂
 only-again {p} c d = only_wider (p ∷ []) (only_then c d) (λ q h. (h.0, h))
+
+-- ---- what a function that tests its page answers
+
+pub went : {ok : Bool} {r : Result (Unit {0}) Unsound} → r ≡ did ok → ok ≡ true → IsOk r
+went e done = rw (e, done) refl
 
 -- ---- a page lent
 
@@ -121,7 +127,7 @@ holds_as y own children c = record { height = c.height; own = c.own ∙ sym own;
 -- `ok` and `x` are what the callee tests and leaves, of the page's words
 module _ (w : List ℕ) (p : ℕ) (ys : List ℕ) (inside : Inside p w) (sized : length ys ≡ length (lent_part w p)) (ok : List ℕ → Bool) (x : List ℕ → Node ℕ) (y : Node ℕ)
     (own : y.own ≡ (x (page_in w p)).own) (children : y.children ≡ (x (page_in w p)).children) where
-  pub lent-changes : {r : Change} → Changes most (ok (lent_part w p)) (x (lent_part w p)) (lent_part w p) ys r → ChangesIn p (ok (page_in w p)) y w (lent_back w p ys) r
+  pub lent-changes : {r : Result (Unit {0}) Unsound} → Changes most (ok (lent_part w p)) (x (lent_part w p)) (lent_part w p) ys r → ChangesIn p (ok (page_in w p)) y w (lent_back w p ys) r
   lent-changes {r} c =
       let s : Changes most (ok (page_in w p)) (x (page_in w p)) (page_in w p) (page_in (lent_back w p ys) p) r =
       lent-said w p ys inside sized (λ u v. Changes most (ok u) (x u) u v r) c in
@@ -132,7 +138,7 @@ module _ (w : List ℕ) (p : ℕ) (ys : List ℕ) (inside : Inside p w) (sized :
         only = lent-only w p ys inside sized;
       }
 
-  pub lent-splits : {r : Parting} → Splits most keeps (ok (lent_part w p)) (x (lent_part w p)) (lent_part w p) ys r → KeepsIn p (ok (page_in w p)) y w (lent_back w p ys) r
+  pub lent-splits : {r : Result lent.Entry Unsound} → Splits most keeps (ok (lent_part w p)) (x (lent_part w p)) (lent_part w p) ys r → KeepsIn p (ok (page_in w p)) y w (lent_back w p ys) r
   lent-splits {r} c =
       let s : Splits most keeps (ok (page_in w p)) (x (page_in w p)) (page_in w p) (page_in (lent_back w p ys) p) r =
       lent-said w p ys inside sized (λ u v. Splits most keeps (ok u) (x u) u v r) c in

@@ -16,17 +16,16 @@ use Rattle.model.specs.Page.{count_of, height_of, entry_in, child_in, entries_of
 use Rattle.model.specs.Standing.{Holds}
 use Rattle.model.specs.Insert.{cut_right}
 use Rattle.model.specs.Mend.{glue}
-use Rattle.page.specs.declared.Change.{Change}
-use Rattle.page.specs.declared.Change.TheVariants as change
-use Rattle.page.specs.declared.Parting.{Parting}
-use Rattle.page.specs.declared.Parting.TheVariants as parting
+use Rattle.std.specs.Prelude.{Result}
+use Rattle.page.specs.declared.Entry as lent
+use Rattle.page.specs.declared.Unsound.{Unsound}
 use Rattle.page.specs.Node.{more, wider, less, instead}
-use Rattle.page.specs.Page.{room_at, holds_at, full_at}
+use Rattle.page.specs.Page.{refused, room_at, holds_at, full_at}
 use Rattle.lend.specs.Pages.{most, keeps, OnlyPages, node_in, Becomes, ChangesIn, KeepsIn, can_split, SplitsIn, are_apart, can_pass, PassesIn, MovesIn, can_join, JoinsIn, page_in}
 use Rattle.model.proofs.Cases.{contrary, either, either_lt}
 use Rattle.model.proofs.Basics.{every_true}
 use Rattle.model.proofs.Read.{length-own, length-children}
-use Rattle.page.proofs.Pages.{room-facts, holds-facts}
+use Rattle.page.proofs.Pages.{room-facts, holds-facts, told}
 use Rattle.lend.proofs.Lent.{own_at, child-at, only_none, only_then, only_wider}
 use Rattle.lend.proofs.Nodes.{give-left, give-up, give-right, get_left, get-up, get-right}
 
@@ -45,7 +44,7 @@ module _ (w : List ℕ) (p q slot : ℕ) where
   unfolding can_split
   split-room n room = simp (ne_eqb p q n, room)
 
-  pub split-none : {r : Parting} (x : Node ℕ) → can_split w p q slot ≡ false → r ≡ parting.Unsound → SplitsIn p q (can_split w p q slot) x w w r
+  pub split-none : {r : Result lent.Entry Unsound} (x : Node ℕ) → can_split w p q slot ≡ false → r ≡ refused → SplitsIn p q (can_split w p q slot) x w w r
   split-none x cannot e = record {
     answer = rw cannot e;
     kept = λ _. refl;
@@ -54,7 +53,7 @@ module _ (w : List ℕ) (p q slot : ℕ) where
     only = only_none (p ∷ q ∷ []) refl;
   }
 
-  pub split_done : {w₁ w₂ : List ℕ} {r : Parting} (e : Entry) (child : ℕ) → p ≢ q → full_at most (page_in w p) slot ≡ true
+  pub split_done : {w₁ w₂ : List ℕ} {r : Result lent.Entry Unsound} (e : Entry) (child : ℕ) → p ≢ q → full_at most (page_in w p) slot ≡ true
       → Holds most (height_of (page_in w p)) (cut_right q keeps (wider slot e child (node_in w p))) (page_in w₁ q) → OnlyPages (q ∷ []) w w₁
       → KeepsIn p (full_at most (page_in w₁ p) slot) (wider slot e child (node_in w₁ p)) w₁ w₂ r
       → SplitsIn p q (can_split w p q slot) (wider slot e child (node_in w p)) w w₂ r
@@ -85,17 +84,7 @@ pass-facts w u i from fs fa to ts ta e =
     (h.0, h.1.0, h.1.1.0, h.1.1.1.0)
 
 module _ (w : List ℕ) (u i from fs fa to ts ta : ℕ) where
-  pub pass-none : {r : Change} → can_pass w u i from fs fa to ts ta ≡ false → r ≡ change.Unsound → PassesIn u i from fs fa to ts ta (can_pass w u i from fs fa to ts ta) w w r
-  pass-none cannot e = record {
-    answer = rw cannot e;
-    kept = λ _. refl;
-    above = λ can. contrary can cannot;
-    gave = λ can. contrary can cannot;
-    got = λ can. contrary can cannot;
-    only = only_none (u ∷ from ∷ to ∷ []) refl;
-  }
-
-  pub pass-done : {w₁ w₂ w₃ : List ℕ} {a b r : Change} (between moved : Entry) (child : ℕ) → can_pass w u i from fs fa to ts ta ≡ true
+  pub pass-done : {w₁ w₂ w₃ : List ℕ} {a b r : Result (Unit {0}) Unsound} (between moved : Entry) (child : ℕ) → can_pass w u i from fs fa to ts ta ≡ true
       → between ≡ entry_in most (page_in w u) i → moved ≡ entry_in most (page_in w from) fs → child ≡ child_in most (page_in w from) fa
       → ChangesIn to (room_at most (page_in w to) ts ta) (more ts between ta child (node_in w to)) w w₁ a
       → ChangesIn u (holds_at most (page_in w₁ u) i 0) (instead i moved (node_in w₁ u)) w₁ w₂ b
@@ -131,7 +120,7 @@ module _ (w : List ℕ) (u i from fs fa to ts ta : ℕ) where
   pass-over over = either (can_pass w u i from fs fa to ts ta)
       (λ can. absurd (omega (arith, room-facts most (page_in w to) ts ta (pass-facts w u i from fs fa to ts ta can).3))) (λ cannot. cannot)
 
-pub move-none : (w : List ℕ) (u i l r n : ℕ) {ok : Bool} {a : Change} → ok ≡ false → a ≡ change.Unsound → MovesIn u i l r n ok w w a
+pub move-none : (w : List ℕ) (u i l r n : ℕ) {ok : Bool} {a : Result (Unit {0}) Unsound} → ok ≡ false → a ≡ refused → MovesIn u i l r n ok w w a
 move-none w u i l r n cannot e = record {
   answer = rw cannot e;
   kept = λ _. refl;
@@ -149,7 +138,7 @@ module _ (w : List ℕ) (u i l r : ℕ) where
   between = get_or (entries_of most (page_in w u)) i no_entry
 
   -- the left page has n + 1 entries, and gives its last
-  pub give-moves : {w' : List ℕ} {a : Change} (n fa : ℕ) → count_of (page_in w l) ≡ suc n → fa ≡ suc n → PassesIn u i l n fa r 0 0 (can_pass w u i l n fa r 0 0) w w' a
+  pub give-moves : {w' : List ℕ} {a : Result (Unit {0}) Unsound} (n fa : ℕ) → count_of (page_in w l) ≡ suc n → fa ≡ suc n → PassesIn u i l n fa r 0 0 (can_pass w u i l n fa r 0 0) w w' a
       → MovesIn u i l r n (can_pass w u i l n fa r 0 0) w w' a
   give-moves n fa many ef c =
       let long : length (entries_of most (page_in w l)) ≡ suc n = length-own most (page_in w l) ∙ many in
@@ -163,7 +152,7 @@ module _ (w : List ℕ) (u i l r : ℕ) where
       }
 
   -- the left page has n, and gets the right page's first
-  pub get-moves : {w' : List ℕ} {a : Change} (n : ℕ) → count_of (page_in w l) ≡ n → PassesIn u i r 0 0 l n (suc n) (can_pass w u i r 0 0 l n (suc n)) w w' a
+  pub get-moves : {w' : List ℕ} {a : Result (Unit {0}) Unsound} (n : ℕ) → count_of (page_in w l) ≡ n → PassesIn u i r 0 0 l n (suc n) (can_pass w u i r 0 0 l n (suc n)) w w' a
       → MovesIn u i l r (suc n) (can_pass w u i r 0 0 l n (suc n)) w w' a
   get-moves n many c =
       let long : length (entries_of most (page_in w l)) ≡ n = length-own most (page_in w l) ∙ many in
@@ -197,16 +186,7 @@ module _ (w : List ℕ) (u i l r : ℕ) where
       ∷ ltb (count_of (page_in w l) + count_of (page_in w r)) most ∷ []) e in
       record { apart = h.0; above = h.1.0; left = leb-true _ _ h.1.1.0; right = leb-true _ _ h.1.1.1.0; fits = ltb-true _ _ h.1.1.1.1.0 }
 
-  pub join-none : {a : Change} → can_join w u i l r ≡ false → a ≡ change.Unsound → JoinsIn u i l r (can_join w u i l r) w w a
-  join-none cannot e = record {
-    answer = rw cannot e;
-    kept = λ _. refl;
-    above = λ can. contrary can cannot;
-    left = λ can. contrary can cannot;
-    only = only_none (u ∷ l ∷ []) refl;
-  }
-
-  pub join-done : {w₁ w₂ : List ℕ} {a : Change} (e : Entry) → can_join w u i l r ≡ true → e ≡ entry_in most (page_in w u) i
+  pub join-done : {w₁ w₂ : List ℕ} {a : Result (Unit {0}) Unsound} (e : Entry) → can_join w u i l r ≡ true → e ≡ entry_in most (page_in w u) i
       → Becomes l (glue (node_in w l) e (node_in w r)) w w₁ → OnlyPages (l ∷ []) w w₁
       → ChangesIn u (holds_at most (page_in w₁ u) i (i + 1)) (less i (i + 1) (node_in w₁ u)) w₁ w₂ a → JoinsIn u i l r (can_join w u i l r) w w₂ a
   join-done {w₁} {w₂} {a} e can ee left o c =
@@ -222,3 +202,6 @@ module _ (w : List ℕ) (u i l r : ℕ) where
         left = λ _. rw (← own_at (page_in w u) i (holds-facts most (page_in w u) i (suc i) f.above).1, ← ee, c.only.others l ((λ q. n.0 (sym q)), tt)) left;
         only = only_wider (u ∷ l ∷ []) (only_then o c.only) (λ z h. (h.1.0, (h.0, tt)));
       }
+
+-- what the tests say, where they hold
+pub ruleset tests = (told, apart-facts, pass-facts, join-facts)

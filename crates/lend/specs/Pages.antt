@@ -2,7 +2,7 @@
 -- nodes. Splitting, taking from a neighbour and joining each have one shape: where their tests hold it is done, else no
 -- word changes.
 -- Assumes nothing: these are definitions.
-use Rattle.std.specs.Prelude.{◌≡◌, Bool, true, false, not, ◌≢◌, List, [], ◌∷◌, ℕ, suc, ◌+◌, ◌-◌, ◌≤◌, leb, ltb, eqb, length, take, get_or}
+use Rattle.std.specs.Prelude.{◌≡◌, Bool, true, false, not, ◌≢◌, List, [], ◌∷◌, ℕ, suc, ◌+◌, ◌-◌, ◌≤◌, leb, ltb, eqb, length, take, get_or, Result}
 use Rattle.model.specs.Basics.{All, every}
 use Rattle.model.specs.Layout.{most_entries, first_word, today}
 use Rattle.model.specs.PageMap.{map_at}
@@ -12,8 +12,8 @@ use Rattle.model.specs.Standing.{node_of, Holds}
 use Rattle.model.specs.Insert as insertion
 use Rattle.model.specs.Insert.{cut_left, cut_right}
 use Rattle.model.specs.Mend.{glue}
-use Rattle.page.specs.declared.Change.{Change}
-use Rattle.page.specs.declared.Parting.{Parting}
+use Rattle.page.specs.declared.Entry as lent
+use Rattle.page.specs.declared.Unsound.{Unsound}
 use Rattle.page.specs.Node.{more, less, instead}
 use Rattle.page.specs.Page.{did, parted, room_at, holds_at, full_at}
 
@@ -61,7 +61,7 @@ Becomes p x w w' = Holds most (height_of (page_in w p)) x (page_in w' p)
 
 -- ---- one page changed
 
-pub record ChangesIn (p : ℕ) (ok : Bool) (x : Node ℕ) (w w' : List ℕ) (r : Change) : Type 0 where
+pub record ChangesIn (p : ℕ) (ok : Bool) (x : Node ℕ) (w w' : List ℕ) (r : Result (Unit {0}) Unsound) : Type 0 where
   pub answer : r ≡ did ok
   pub kept : ok ≡ false → w' ≡ w
   pub holds : ok ≡ true → Becomes p x w w'
@@ -73,14 +73,14 @@ unfoldable pub can_split : List ℕ → ℕ → ℕ → ℕ → Bool
 can_split w p q slot = every (not (eqb p q) ∷ full_at most (page_in w p) slot ∷ [])
 
 -- what becomes of page p
-pub record KeepsIn (p : ℕ) (ok : Bool) (x : Node ℕ) (w w' : List ℕ) (r : Parting) : Type 0 where
+pub record KeepsIn (p : ℕ) (ok : Bool) (x : Node ℕ) (w w' : List ℕ) (r : Result lent.Entry Unsound) : Type 0 where
   pub answer : r ≡ parted ok (get_or x.own keeps no_entry)
   pub kept : ok ≡ false → w' ≡ w
   pub left : ok ≡ true → Becomes p (cut_left keeps x) w w'
   pub only : OnlyPages (p ∷ []) w w'
 
 -- what becomes of both
-pub record SplitsIn (p q : ℕ) (ok : Bool) (x : Node ℕ) (w w' : List ℕ) (r : Parting) : Type 0 where
+pub record SplitsIn (p q : ℕ) (ok : Bool) (x : Node ℕ) (w w' : List ℕ) (r : Result lent.Entry Unsound) : Type 0 where
   pub answer : r ≡ parted ok (get_or x.own keeps no_entry)
   pub kept : ok ≡ false → w' ≡ w
   pub left : ok ≡ true → Becomes p (cut_left keeps x) w w'
@@ -102,7 +102,7 @@ unfoldable pub can_pass : List ℕ → ℕ → ℕ → ℕ → ℕ → ℕ → �
 can_pass w u i from fs fa to ts ta =
     every (every (are_apart u from to) ∷ holds_at most (page_in w u) i 0 ∷ holds_at most (page_in w from) fs fa ∷ room_at most (page_in w to) ts ta ∷ [])
 
-pub record PassesIn (u i from fs fa to ts ta : ℕ) (ok : Bool) (w w' : List ℕ) (r : Change) : Type 0 where
+pub record PassesIn (u i from fs fa to ts ta : ℕ) (ok : Bool) (w w' : List ℕ) (r : Result (Unit {0}) Unsound) : Type 0 where
   pub answer : r ≡ did ok
   pub kept : ok ≡ false → w' ≡ w
   pub above : ok ≡ true → Becomes u (instead i (entry_of w from fs) (node_in w u)) w w'
@@ -111,7 +111,7 @@ pub record PassesIn (u i from fs fa to ts ta : ℕ) (ok : Bool) (w w' : List ℕ
   pub only : OnlyPages (u ∷ from ∷ to ∷ []) w w'
 
 -- one entry through the parent: the three as one page are cut again behind n entries
-pub record MovesIn (u i l r n : ℕ) (ok : Bool) (w w' : List ℕ) (a : Change) : Type 0 where
+pub record MovesIn (u i l r n : ℕ) (ok : Bool) (w w' : List ℕ) (a : Result (Unit {0}) Unsound) : Type 0 where
   pub answer : a ≡ did ok
   pub kept : ok ≡ false → w' ≡ w
   pub above : ok ≡ true → Becomes u (instead i (get_or (glued w u i l r).own n no_entry) (node_in w u)) w w'
@@ -134,7 +134,7 @@ can_join w u i l r =
 
 -- the left page holds the three, and the parent loses entry i and the right page's number; the right page keeps its
 -- words
-pub record JoinsIn (u i l r : ℕ) (ok : Bool) (w w' : List ℕ) (a : Change) : Type 0 where
+pub record JoinsIn (u i l r : ℕ) (ok : Bool) (w w' : List ℕ) (a : Result (Unit {0}) Unsound) : Type 0 where
   pub answer : a ≡ did ok
   pub kept : ok ≡ false → w' ≡ w
   pub above : ok ≡ true → Becomes u (less i (suc i) (node_in w u)) w w'

@@ -8,7 +8,6 @@ ghost use Rattle.lend.specs.Pages.{map_in};
 ghost use Rattle.lend.specs.Touches.{Sized, MapBecomes};
 
 use model::{FIRST_PAGE, HEAD_WORDS, PAGE_WORDS};
-use pagemap::Lowest;
 
 // P, by the length.
 pub fn pages_in(pool: &[u64]) -> usize
@@ -40,7 +39,7 @@ pub fn has_free(pool: &[u64], k: usize) -> bool
     pagemap::has_free(&pool[HEAD_WORDS..FIRST_PAGE], pages, k)
 }
 
-pub fn take_lowest(pool: &mut [u64]) -> Lowest
+pub fn take_lowest(pool: &mut [u64]) -> Option<usize>
     requires { Sized pool.old }
     ensures { (result ≡ lowest_of (free_in (map_in pool.old) (pages_in today (length pool.old)))) × MapBecomes (took (map_in pool.old) result) pool.old pool.new }
 {

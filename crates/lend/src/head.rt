@@ -6,6 +6,7 @@ ghost use Rattle.model.specs.Basics.{every};
 ghost use Rattle.model.specs.Head.{levels_word, spare_words, both_or_neither, number_tests, headed};
 ghost use Rattle.model.specs.Layout as layout;
 
+use crate::bits;
 use model::{
     AFTER, COUNT, FIRST_PAGE, HEAD_WORDS, KIND, LEVELS, MOST, MOST_LEVELS, MOST_PAGES, OPEN,
     PAGE_WORDS, ROOT,
@@ -19,11 +20,9 @@ fn spare_zero(pool: &[u64]) -> bool
     requires { head_words ≤ length pool.now }
     ensures { result ≡ every (map (λ x. eqb x 0) (spare_words pool.now)) }
 {
-    let mut all: u64 = 0;
-    let mut i: usize = SPARE;
-    while i < HEAD_WORDS {
-        all = all | pool[i];
-        i += 1;
+    let mut all = 0;
+    for word in &pool[SPARE..HEAD_WORDS] {
+        all |= *word;
     }
     all == 0
 }
@@ -32,7 +31,7 @@ fn spare_zero(pool: &[u64]) -> bool
 fn both_or_neither(a: u64, b: u64) -> bool
     ensures { result ≡ both_or_neither a b }
 {
-    if a == 0 { b == 0 } else { b != 0 }
+    (a == 0) == (b == 0)
 }
 
 // Whether a pool may have this length.
@@ -43,10 +42,7 @@ pub fn allowed(n: usize) -> bool
         return false;
     }
     let pages = (n - FIRST_PAGE) / PAGE_WORDS;
-    if MOST_PAGES < pages {
-        return false;
-    }
-    n == FIRST_PAGE + PAGE_WORDS * pages
+    pages <= MOST_PAGES && n == FIRST_PAGE + PAGE_WORDS * pages
 }
 
 // Whether the head's numbers fit, in a pool of `pages` pages.
@@ -54,51 +50,24 @@ fn numbers(pool: &[u64], pages: u64) -> bool
     requires { (head_words ≤ length pool.now) × (pages ≤ most_pages today) }
     ensures { result ≡ every (number_tests today pages pool.now) }
 {
-    if pool[0] != 1 {
-        return false;
-    }
-    if pool[1] != pages {
-        return false;
-    }
-    if MOST as u64 * pages < pool[COUNT] {
-        return false;
-    }
-    if pages < pool[ROOT] {
-        return false;
-    }
-    if (MOST_LEVELS as u64) < pool[LEVELS] {
-        return false;
-    }
-    if 1 < pool[OPEN] {
-        return false;
-    }
-    if 1 < pool[AFTER] {
-        return false;
-    }
-    if 1 < pool[KIND] {
-        return false;
-    }
-    if 1 < pool[KIND] + pool[OPEN] {
-        return false;
-    }
-    if !both_or_neither(pool[COUNT], pool[ROOT]) {
-        return false;
-    }
-    both_or_neither(pool[COUNT], pool[LEVELS])
+    pool[0] == 1
+        && pool[1] == pages
+        && pool[COUNT] <= MOST as u64 * pages
+        && pool[ROOT] <= pages
+        && pool[LEVELS] <= MOST_LEVELS as u64
+        && pool[OPEN] <= 1
+        && pool[AFTER] <= 1
+        && pool[KIND] <= 1
+        && pool[KIND] + pool[OPEN] <= 1
+        && both_or_neither(pool[COUNT], pool[ROOT])
+        && both_or_neither(pool[COUNT], pool[LEVELS])
 }
 
 // Whether the length is allowed and the head fits.
 pub fn fits(pool: &[u64]) -> bool
     ensures { result ≡ headed pool.now }
 {
-    if !allowed(pool.len()) {
-        return false;
-    }
-    let pages = (pool.len() - FIRST_PAGE) / PAGE_WORDS;
-    if !numbers(pool, pages as u64) {
-        return false;
-    }
-    spare_zero(pool)
+    allowed(pool.len()) && numbers(pool, bits::pages_in(pool) as u64) && spare_zero(pool)
 }
 
 // The number of levels.

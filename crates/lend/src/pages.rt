@@ -4,18 +4,18 @@
 ghost use Rattle.model.specs.Layout.{today, page_words};
 ghost use Rattle.std.specs.Prelude.{◌≡◌, ◌≢◌, true, false, [], ◌∷◌, suc, ◌+◌, ◌-◌, ◌≤◌, ◌<◌, length, get_or};
 ghost use Rattle.model.specs.Basics.{ins, every};
-ghost use Rattle.model.specs.Tree.{entry, no_entry};
+ghost use Rattle.model.specs.Tree.{no_entry};
 ghost use Rattle.model.specs.Page.{count_of, height_of, entry_in, child_in, entries_of, children_of};
 ghost use Rattle.model.specs.Standing.{Holds};
 ghost use Rattle.model.specs.Insert.{cut_right};
 ghost use Rattle.model.specs.Mend.{glue};
 ghost use Rattle.page.specs.Node.{alone, more, wider, less, instead};
 ghost use Rattle.page.specs.Runs.{up_to};
-ghost use Rattle.page.specs.Page.{room_at, holds_at, full_at, gap_in, place_of};
+ghost use Rattle.page.specs.Page.{plain, room_at, holds_at, full_at, gap_in, place_of};
 ghost use Rattle.lend.specs.Pages.{most, keeps, Inside, OnlyPages, node_in, Becomes, ChangesIn, KeepsIn, can_split, SplitsIn, are_apart, can_pass, PassesIn, MovesIn, can_give, can_get, can_join, JoinsIn, page_in};
 
 use model::{FIRST_PAGE, KEPT, LEAST, MOST, PAGE_WORDS};
-use page::{Change, Entry, Parting, Place, Slot};
+use page::{Entry, Place, Unsound};
 
 // Of ten entries, the first that is given away, and the child after it.
 const GIVEN: usize = KEPT + 1;
@@ -33,21 +33,21 @@ pub fn page_at(pool: &[u64], p: usize) -> &[u64]
     &pool[a..a + PAGE_WORDS]
 }
 
-pub fn gap_before(pool: &[u64], p: usize, key: u64) -> Slot
+pub fn gap_before(pool: &[u64], p: usize, key: u64) -> Result<usize, Unsound>
     requires { Inside p pool.now }
     ensures { result ≡ gap_in most (page_in pool.now p) (up_to key false) }
 {
     page::gap_before(page_at(pool, p), MOST, key)
 }
 
-pub fn gap_after(pool: &[u64], p: usize, key: u64) -> Slot
+pub fn gap_after(pool: &[u64], p: usize, key: u64) -> Result<usize, Unsound>
     requires { Inside p pool.now }
     ensures { result ≡ gap_in most (page_in pool.now p) (up_to key true) }
 {
     page::gap_after(page_at(pool, p), MOST, key)
 }
 
-pub fn find(pool: &[u64], p: usize, key: u64) -> Place
+pub fn find(pool: &[u64], p: usize, key: u64) -> Result<Place, Unsound>
     requires { Inside p pool.now }
     ensures { result ≡ place_of most (page_in pool.now p) key }
 {
@@ -70,7 +70,7 @@ pub fn height(pool: &[u64], p: usize) -> u64
 
 pub fn entry_at(pool: &[u64], p: usize, slot: usize) -> Entry
     requires { Inside p pool.now × (slot < most) }
-    ensures { entry result.key result.value ≡ entry_in most (page_in pool.now p) slot }
+    ensures { plain result ≡ entry_in most (page_in pool.now p) slot }
 {
     page::entry_at(page_at(pool, p), MOST, slot)
 }
@@ -84,9 +84,9 @@ pub fn child_at(pool: &[u64], p: usize, at: usize) -> u64
 
 // ---- one page, changed
 
-pub fn single(pool: &mut [u64], p: usize, height: u64, key: u64, value: u64, left: u64, right: u64)
+pub fn single(pool: &mut [u64], p: usize, height: u64, entry: Entry, left: u64, right: u64)
     requires { Inside p pool.old }
-    ensures holds { Holds most height (alone (entry key value) left right) (page_in pool.new p) }
+    ensures holds { Holds most height (alone (plain entry) left right) (page_in pool.new p) }
     ensures only_pages { OnlyPages (p ∷ []) pool.old pool.new }
 {
     let a = FIRST_PAGE + PAGE_WORDS * p;
@@ -94,43 +94,33 @@ pub fn single(pool: &mut [u64], p: usize, height: u64, key: u64, value: u64, lef
         &mut pool[a..a + PAGE_WORDS],
         MOST,
         height,
-        key,
-        value,
+        entry,
         left,
         right,
     );
 }
 
-pub fn set_entry(pool: &mut [u64], p: usize, slot: usize, key: u64, value: u64) -> Change
+pub fn set_entry(pool: &mut [u64], p: usize, slot: usize, entry: Entry) -> Result<(), Unsound>
     requires { Inside p pool.old }
-    ensures { ChangesIn p (holds_at most (page_in pool.old p) slot 0) (instead slot (entry key value) (node_in pool.old p)) pool.old pool.new result }
+    ensures { ChangesIn p (holds_at most (page_in pool.old p) slot 0) (instead slot (plain entry) (node_in pool.old p)) pool.old pool.new result }
 {
     let a = FIRST_PAGE + PAGE_WORDS * p;
-    page::set_entry(&mut pool[a..a + PAGE_WORDS], MOST, slot, key, value)
+    page::set_entry(&mut pool[a..a + PAGE_WORDS], MOST, slot, entry)
 }
 
 pub fn insert(
     pool: &mut [u64],
     p: usize,
     slot: usize,
-    key: u64,
-    value: u64,
+    entry: Entry,
     at: usize,
     child: u64,
-) -> Change
+) -> Result<(), Unsound>
     requires { Inside p pool.old }
-    ensures { ChangesIn p (room_at most (page_in pool.old p) slot at) (more slot (entry key value) at child (node_in pool.old p)) pool.old pool.new result }
+    ensures { ChangesIn p (room_at most (page_in pool.old p) slot at) (more slot (plain entry) at child (node_in pool.old p)) pool.old pool.new result }
 {
     let a = FIRST_PAGE + PAGE_WORDS * p;
-    page::insert(
-        &mut pool[a..a + PAGE_WORDS],
-        MOST,
-        slot,
-        key,
-        value,
-        at,
-        child,
-    )
+    page::insert(&mut pool[a..a + PAGE_WORDS], MOST, slot, entry, at, child)
 }
 
 // The same promise as `insert`, for an entry that goes behind the last.
@@ -138,27 +128,18 @@ pub fn put_last(
     pool: &mut [u64],
     p: usize,
     slot: usize,
-    key: u64,
-    value: u64,
+    entry: Entry,
     at: usize,
     child: u64,
-) -> Change
+) -> Result<(), Unsound>
     requires { Inside p pool.old }
-    ensures { ChangesIn p (room_at most (page_in pool.old p) slot at) (more slot (entry key value) at child (node_in pool.old p)) pool.old pool.new result }
+    ensures { ChangesIn p (room_at most (page_in pool.old p) slot at) (more slot (plain entry) at child (node_in pool.old p)) pool.old pool.new result }
 {
     let a = FIRST_PAGE + PAGE_WORDS * p;
-    page::put_last(
-        &mut pool[a..a + PAGE_WORDS],
-        MOST,
-        slot,
-        key,
-        value,
-        at,
-        child,
-    )
+    page::put_last(&mut pool[a..a + PAGE_WORDS], MOST, slot, entry, at, child)
 }
 
-pub fn remove(pool: &mut [u64], p: usize, slot: usize, at: usize) -> Change
+pub fn remove(pool: &mut [u64], p: usize, slot: usize, at: usize) -> Result<(), Unsound>
     requires { Inside p pool.old }
     ensures { ChangesIn p (holds_at most (page_in pool.old p) slot at) (less slot at (node_in pool.old p)) pool.old pool.new result }
 {
@@ -169,14 +150,16 @@ pub fn remove(pool: &mut [u64], p: usize, slot: usize, at: usize) -> Change
 // ---- a page that would hold ten
 
 // Entry `i` of a full page with one entry more.
-fn wider_entry(pool: &[u64], p: usize, slot: usize, key: u64, value: u64, i: usize) -> Entry
+#[tactic(auto, using(crate::proofs::Several::tests))]
+fn wider_entry(pool: &[u64], p: usize, slot: usize, entry: Entry, i: usize) -> Entry
     requires { Inside p pool.now × (full_at most (page_in pool.now p) slot ≡ true) × (i ≤ most) }
-    ensures { entry result.key result.value ≡ get_or (ins slot (entry key value) (entries_of most (page_in pool.now p))) i no_entry }
+    ensures { plain result ≡ get_or (ins slot (plain entry) (entries_of most (page_in pool.now p))) i no_entry }
 {
-    page::wider_entry(page_at(pool, p), MOST, slot, key, value, i)
+    page::wider_entry(page_at(pool, p), MOST, slot, entry, i)
 }
 
 // Child `i` of it.
+#[tactic(auto, using(crate::proofs::Several::tests))]
 fn wider_child(pool: &[u64], p: usize, slot: usize, child: u64, i: usize) -> u64
     requires { Inside p pool.now × (full_at most (page_in pool.now p) slot ≡ true) × (i ≤ suc most) }
     ensures { result ≡ get_or (ins (suc slot) child (children_of most (page_in pool.now p))) i 0 }
@@ -184,42 +167,32 @@ fn wider_child(pool: &[u64], p: usize, slot: usize, child: u64, i: usize) -> u64
     page::wider_child(page_at(pool, p), MOST, slot + 1, child, i)
 }
 
-// Page `q` gets the last four of ten. Page `p` is full, and is left as it was.
-fn give(pool: &mut [u64], p: usize, q: usize, slot: usize, key: u64, value: u64, child: u64)
+// Page `q` gets the last four of ten, for which it has room. Page `p` is full, and is left as it was.
+fn give(pool: &mut [u64], p: usize, q: usize, slot: usize, entry: Entry, child: u64)
     requires inside { Inside p pool.old × Inside q pool.old × (p ≢ q) }
     requires slot_value { full_at most (page_in pool.old p) slot ≡ true }
-    ensures holds { Holds most (height_of (page_in pool.old p)) (cut_right q keeps (wider slot (entry key value) child (node_in pool.old p))) (page_in pool.new q) }
+    ensures holds { Holds most (height_of (page_in pool.old p)) (cut_right q keeps (wider slot (plain entry) child (node_in pool.old p))) (page_in pool.new q) }
     ensures only_pages { OnlyPages (q ∷ []) pool.old pool.new }
 {
     let h = height(pool, p);
-    let first = wider_entry(pool, p, slot, key, value, GIVEN);
+    let first = wider_entry(pool, p, slot, entry, GIVEN);
     let left = wider_child(pool, p, slot, child, GIVEN);
     let right = wider_child(pool, p, slot, child, BEHIND);
-    single(pool, q, h, first.key, first.value, left, right);
-    let mut j = 1;
-    while j < LEAST {
-        let e = wider_entry(pool, p, slot, key, value, GIVEN + j);
+    single(pool, q, h, first, left, right);
+    for j in 1..LEAST {
+        let e = wider_entry(pool, p, slot, entry, GIVEN + j);
         let c = wider_child(pool, p, slot, child, BEHIND + j);
-        put_last(pool, q, j, e.key, e.value, j + 1, c);
-        j += 1;
+        put_last(pool, q, j, e, j + 1, c).unwrap();
     }
 }
 
 // Page `p` keeps the first five of ten, and the sixth goes up.
-fn keep(pool: &mut [u64], p: usize, slot: usize, key: u64, value: u64, child: u64) -> Parting
+fn keep(pool: &mut [u64], p: usize, slot: usize, entry: Entry, child: u64) -> Result<Entry, Unsound>
     requires { Inside p pool.old }
-    ensures { KeepsIn p (full_at most (page_in pool.old p) slot) (wider slot (entry key value) child (node_in pool.old p)) pool.old pool.new result }
+    ensures { KeepsIn p (full_at most (page_in pool.old p) slot) (wider slot (plain entry) child (node_in pool.old p)) pool.old pool.new result }
 {
     let a = FIRST_PAGE + PAGE_WORDS * p;
-    page::split(
-        &mut pool[a..a + PAGE_WORDS],
-        MOST,
-        KEPT,
-        slot,
-        key,
-        value,
-        child,
-    )
+    page::split(&mut pool[a..a + PAGE_WORDS], MOST, KEPT, slot, entry, child)
 }
 
 // A full page `p` with one entry more, and the child after it.
@@ -228,21 +201,17 @@ pub fn split(
     p: usize,
     q: usize,
     slot: usize,
-    key: u64,
-    value: u64,
+    entry: Entry,
     child: u64,
-) -> Parting
+) -> Result<Entry, Unsound>
     requires { Inside p pool.old × Inside q pool.old }
-    ensures { SplitsIn p q (can_split pool.old p q slot) (wider slot (entry key value) child (node_in pool.old p)) pool.old pool.new result }
+    ensures { SplitsIn p q (can_split pool.old p q slot) (wider slot (plain entry) child (node_in pool.old p)) pool.old pool.new result }
 {
-    if p == q {
-        return Parting::Unsound;
+    if p == q || !page::is_full(page_at(pool, p), MOST, slot) {
+        return Err(Unsound);
     }
-    if !page::is_full(page_at(pool, p), MOST, slot) {
-        return Parting::Unsound;
-    }
-    give(pool, p, q, slot, key, value, child);
-    keep(pool, p, slot, key, value, child)
+    give(pool, p, q, slot, entry, child);
+    keep(pool, p, slot, entry, child)
 }
 
 // ---- two neighbours and their parent
@@ -251,13 +220,7 @@ pub fn split(
 fn apart(u: usize, l: usize, r: usize) -> bool
     ensures { result ≡ every (are_apart u l r) }
 {
-    if u == l {
-        return false;
-    }
-    if u == r {
-        return false;
-    }
-    l != r
+    u != l && u != r && l != r
 }
 
 // Whether one entry can go from page `from` to page `to` through entry `i` of page `u`.
@@ -275,20 +238,15 @@ fn can_pass(
     requires { Inside u pool.now × Inside from pool.now × Inside to pool.now }
     ensures { result ≡ can_pass pool.now u i from fs fa to ts ta }
 {
-    if !apart(u, from, to) {
-        return false;
-    }
-    if !page::holds(page_at(pool, u), MOST, i, 0) {
-        return false;
-    }
-    if !page::holds(page_at(pool, from), MOST, fs, fa) {
-        return false;
-    }
-    page::has_room(page_at(pool, to), MOST, ts, ta)
+    apart(u, from, to)
+        && page::holds(page_at(pool, u), MOST, i, 0)
+        && page::holds(page_at(pool, from), MOST, fs, fa)
+        && page::has_room(page_at(pool, to), MOST, ts, ta)
 }
 
 // The entry at slot `fs` of page `from` goes up to entry `i` of page `u`, and that one down before slot `ts` of page
-// `to`; the child at `fa` goes along, to `ta`.
+// `to`; the child at `fa` goes along, to `ta`. What the three pages are asked for was tested, so none of them refuses.
+#[tactic(auto, using(crate::proofs::Several::tests))]
 fn pass(
     pool: &mut [u64],
     u: usize,
@@ -299,41 +257,41 @@ fn pass(
     to: usize,
     ts: usize,
     ta: usize,
-) -> Change
+) -> Result<(), Unsound>
     requires { Inside u pool.old × Inside from pool.old × Inside to pool.old }
     ensures { PassesIn u i from fs fa to ts ta (can_pass pool.old u i from fs fa to ts ta) pool.old pool.new result }
 {
     if !can_pass(pool, u, i, from, fs, fa, to, ts, ta) {
-        return Change::Unsound;
+        return Err(Unsound);
     }
     let between = entry_at(pool, u, i);
     let moved = entry_at(pool, from, fs);
     let child = child_at(pool, from, fa);
-    insert(pool, to, ts, between.key, between.value, ta, child);
-    set_entry(pool, u, i, moved.key, moved.value);
+    insert(pool, to, ts, between, ta, child).unwrap();
+    set_entry(pool, u, i, moved).unwrap();
     remove(pool, from, fs, fa)
 }
 
 // The right page takes one through the parent from its left neighbour.
-pub fn take_left(pool: &mut [u64], u: usize, i: usize, l: usize, r: usize) -> Change
+pub fn take_left(pool: &mut [u64], u: usize, i: usize, l: usize, r: usize) -> Result<(), Unsound>
     requires { Inside u pool.old × Inside l pool.old × Inside r pool.old }
     ensures { MovesIn u i l r (count_of (page_in pool.old l) - 1) (can_give pool.old u i l r) pool.old pool.new result }
 {
     let n = count(pool, l);
     if n == 0 {
-        return Change::Unsound;
+        return Err(Unsound);
     }
     pass(pool, u, i, l, n - 1, n, r, 0, 0)
 }
 
 // The left page takes one through the parent from its right neighbour.
-pub fn take_right(pool: &mut [u64], u: usize, i: usize, l: usize, r: usize) -> Change
+pub fn take_right(pool: &mut [u64], u: usize, i: usize, l: usize, r: usize) -> Result<(), Unsound>
     requires { Inside u pool.old × Inside l pool.old × Inside r pool.old }
     ensures { MovesIn u i l r (suc (count_of (page_in pool.old l))) (can_get pool.old u i l r) pool.old pool.new result }
 {
     let n = count(pool, l);
     if MOST < n {
-        return Change::Unsound;
+        return Err(Unsound);
     }
     pass(pool, u, i, r, 0, 0, l, n, n + 1)
 }
@@ -343,56 +301,43 @@ fn can_join(pool: &[u64], u: usize, i: usize, l: usize, r: usize) -> bool
     requires { Inside u pool.now × Inside l pool.now × Inside r pool.now × (i < most) }
     ensures { result ≡ can_join pool.now u i l r }
 {
-    if !apart(u, l, r) {
-        return false;
-    }
-    if !page::holds(page_at(pool, u), MOST, i, i + 1) {
+    if !apart(u, l, r) || !page::holds(page_at(pool, u), MOST, i, i + 1) {
         return false;
     }
     let n = count(pool, l);
     let m = count(pool, r);
-    if n == 0 {
-        return false;
-    }
-    if m == 0 {
-        return false;
-    }
-    if MOST <= n {
-        return false;
-    }
-    m < MOST - n
+    1 <= n && 1 <= m && n < MOST && m < MOST - n
 }
 
-// An entry, and then all of page `r`, at the end of page `l`.
-fn append(pool: &mut [u64], l: usize, key: u64, value: u64, r: usize)
+// An entry, and then all of page `r`, at the end of page `l`, which has room for them.
+fn append(pool: &mut [u64], l: usize, entry: Entry, r: usize)
     requires inside { Inside l pool.old × Inside r pool.old × (l ≢ r) }
     requires bound { (1 ≤ count_of (page_in pool.old l)) × (count_of (page_in pool.old l) + count_of (page_in pool.old r) < most) }
-    ensures becomes { Becomes l (glue (node_in pool.old l) (entry key value) (node_in pool.old r)) pool.old pool.new }
+    ensures becomes { Becomes l (glue (node_in pool.old l) (plain entry) (node_in pool.old r)) pool.old pool.new }
     ensures only_pages { OnlyPages (l ∷ []) pool.old pool.new }
 {
     let n = count(pool, l);
     let m = count(pool, r);
     let first = child_at(pool, r, 0);
-    put_last(pool, l, n, key, value, n + 1, first);
-    let mut j = 0;
-    while j < m {
+    put_last(pool, l, n, entry, n + 1, first).unwrap();
+    for j in 0..m {
         let e = entry_at(pool, r, j);
         let c = child_at(pool, r, j + 1);
-        put_last(pool, l, n + 1 + j, e.key, e.value, n + 2 + j, c);
-        j += 1;
+        put_last(pool, l, n + 1 + j, e, n + 2 + j, c).unwrap();
     }
 }
 
 // Two neighbours and the entry between them become the left page; the right page keeps its words, and its number leaves
 // the parent.
-pub fn join(pool: &mut [u64], u: usize, i: usize, l: usize, r: usize) -> Change
+#[tactic(auto, using(crate::proofs::Several::tests))]
+pub fn join(pool: &mut [u64], u: usize, i: usize, l: usize, r: usize) -> Result<(), Unsound>
     requires { Inside u pool.old × Inside l pool.old × Inside r pool.old × (i < most) }
     ensures { JoinsIn u i l r (can_join pool.old u i l r) pool.old pool.new result }
 {
     if !can_join(pool, u, i, l, r) {
-        return Change::Unsound;
+        return Err(Unsound);
     }
     let between = entry_at(pool, u, i);
-    append(pool, l, between.key, between.value, r);
+    append(pool, l, between, r);
     remove(pool, u, i, i + 1)
 }

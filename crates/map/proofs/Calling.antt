@@ -4,13 +4,16 @@
 -- Assumes nothing.
 use mathlib.Core.Path.{◌≡◌, refl, sym, ap, ap₂, subst, ◌∙◌}
 use mathlib.Core.Bool.{Bool, true, false, not, cond}
-use mathlib.Core.Logic.{inr, ◌≢◌}
+use mathlib.Core.Logic.{inr, ⊎_elim, ◌≢◌}
 use mathlib.Core.Option.{Option, none, some}
 use mathlib.Core.List.{List, [], ◌∷◌}
 use Prim.Native.Nat.{ℕ, zero, suc, ◌+◌, ◌<◌}
 use native.Mathlib.Omega.{arith}
 use lib.ListN.{length, get_or}
 use borrow.Author.Tests.{not-true}
+use Rattle.std.specs.Prelude.{Some, None, Result, Ok, Err, is_some, is_none}
+use Rattle.std.specs.Prelude as std
+use Rattle.page.specs.declared.Unsound.{Unsound}
 use Rattle.model.specs.Head.{levels_word}
 use Rattle.model.specs.Tree.{Entry, entry, no_entry}
 use Rattle.model.specs.Entries.{has, lookup}
@@ -21,33 +24,31 @@ use Rattle.model.specs.Sound.{Sound}
 use Rattle.model.specs.Written.{Written}
 use Rattle.model.specs.Refusal.{Test, ◌when◌, refusal, map_kind, set_kind}
 use Rattle.model.specs.Call.{Call, Outcome, refused, answered, given, number, Meets, ReadsPages, reads}
-use Rattle.model.specs.MapCalls.{read_tests, change_tests, file, no_room, strike, pages_read, map_insert, map_get, map_contains, map_replace}
+use Rattle.model.specs.MapCalls.{read_tests, change_tests, file, no_room, strike, pages_read, map_insert, map_replace}
 use Rattle.model.specs.SetCalls.{set_insert, set_get, set_contains}
 use Rattle.model.specs.Source.{view, member}
-use Rattle.tree.specs.declared.search.Got.{Got}
-use Rattle.tree.specs.declared.search.Got.TheVariants as got
+use Rattle.tree.specs.declared.search.Found as search
 use Rattle.tree.specs.Search.{got_by, Gets, ReadFew}
 use Rattle.tree.specs.Write.{Writes}
-use Rattle.map.specs.declared.entry.Added.{Added}
-use Rattle.map.specs.declared.entry.Added.TheVariants as added
-use Rattle.map.specs.declared.entry.Sought.{Sought}
-use Rattle.map.specs.declared.entry.Sought.TheVariants as sought
-use Rattle.map.specs.declared.entry.Struck.{Struck}
-use Rattle.map.specs.declared.entry.Struck.TheVariants as struck
+use Rattle.tree.specs.declared.steps.Spot.{Spot}
+use Rattle.map.specs.declared.Got.{Got as GotBy}
+use Rattle.map.specs.declared.Seen.{Seen as SeenBy}
 use Rattle.map.specs.declared.refusal.Refusal.{Refusal}
-use Rattle.map.specs.Answers.{number_of}
-use Rattle.map.specs.Entry.{gap_for, spot_for, StandsAt, Finds, Adds, Strikes}
+use Rattle.map.specs.declared.refusal.Refusal.TheVariants as reason
+use Rattle.map.specs.Answers.{number_of, option_of, found_of, seen_of}
+use Rattle.map.specs.Entry.{gap_for, spot_for, StandsAt, Finds, Adds, Strikes, gets_in, contains_in}
 use Rattle.model.proofs.Cases.{contrary, never}
 use Rattle.model.proofs.Basics.{all-at}
 use Rattle.model.proofs.Entries.{has_key, has-lookup, lookup-at, there}
 use Rattle.model.proofs.Write.{write_same}
 use Rattle.model.proofs.Right.{sound-right}
-use Rattle.model.proofs.Keeps.{Keeps, keeps-reads, keeps-map-insert, keeps-map-replace, keeps-set-insert}
+use Rattle.model.proofs.Keeps.{keeps-reads, Keeps, keeps-map-insert, keeps-map-replace, keeps-set-insert}
 use Rattle.model.proofs.Written.{sound-written}
 use Rattle.model.proofs.Reading.{read-absent, pages-told, pages-refused}
 use Rattle.model.proofs.Meets.{Staged, meets-early, meets-answered, meets-stopped, meets-unsound, meets-read, passes-changing}
 use Rattle.map.proofs.Answers.{number-some}
 use Rattle.map.proofs.Placing.{absent-value}
+use Rattle.tree.specs.Steps.{spot}
 
 -- ---- how an arm of a call ends
 
@@ -98,9 +99,9 @@ room-there : (w : List ℕ) (k : ℕ) → member w k ≡ true → refusal (7 whe
 unfolding no_room
 room-there w k y = rw y
 
-module _ {A : Type 0} (kind : ℕ) {k x : ℕ} {answer : Pool → A} {still : Pool → Bool} {w u : List ℕ} {r : Added}
+module _ {A : Type 0} (kind : ℕ) {k x : ℕ} {answer : Pool → A} {still : Pool → Bool} {w u : List ℕ} {r : Result (std.Option Spot) Refusal}
     (keeps : Keeps (files kind k x answer still)) (pass : 0 ≡ refusal (change_tests kind w)) (adds : Adds k x w u r) where
-  inserted_new : {a : A} → (Sound w → member w k ≡ false → (a ≡ answer (pool_of w)) × (still (pool_of w) ≡ false)) → r ≡ added.New
+  inserted_new : {a : A} → (Sound w → member w k ≡ false → (a ≡ answer (pool_of w)) × (still (pool_of w) ≡ false)) → r ≡ Ok None
       → Meets (files kind k x answer still) w u (answered a)
   unfolding no_room file
   inserted_new says e =
@@ -115,27 +116,34 @@ module _ {A : Type 0} (kind : ℕ) {k x : ℕ} {answer : Pool → A} {still : Po
         still = λ z. contrary z b.1;
       })
 
-  pub insert-full : r ≡ added.Full → Meets (files kind k x answer still) w u (refused 7)
+  insert-full : r ≡ Err reason.NoRoom → Meets (files kind k x answer still) w u (refused 7)
   unfolding no_room
   insert-full e = let f = adds.full e in meets-stopped (λ w p. (refl, refl)) keeps pass 6 f.0 (inr refl) (λ s. rw ((f.1 s).0, (f.1 s).1))
 
-module _ {k x : ℕ} {w u : List ℕ} {r : Added} (pass : 0 ≡ refusal (change_tests map_kind w)) (adds : Adds k x w u r) where
-  pub insert-new : r ≡ added.New → Meets (map_insert k x) w u (answered none)
+  pub insert-refused : (e : Refusal) → r ≡ Err e → Meets (files kind k x answer still) w u (refused (number_of e))
+  insert-refused e is =
+      ⊎_elim
+      (λ q. rw q (insert-full (is ∙ ap Err q)))
+      (λ q. rw q (meets-unsound (λ w p. (refl, refl)) keeps pass (adds.unsound (is ∙ ap Err q))))
+      (adds.refused e is)
+
+module _ {k x : ℕ} {w u : List ℕ} {r : Result (std.Option Spot) Refusal} (pass : 0 ≡ refusal (change_tests map_kind w)) (adds : Adds k x w u r) where
+  pub insert-new : r ≡ Ok None → Meets (map_insert k x) w u (answered none)
   insert-new e = inserted_new map_kind (keeps-map-insert k x) pass adds (λ s n. (sym (absent-value w k s n), refl)) e
 
-  pub insert-over : {v : List ℕ} {p i old : ℕ} → r ≡ added.Here p i → Writes p i x u v old → Meets (map_insert k x) w v (answered (some old))
+  pub insert-over : {v : List ℕ} {p i old : ℕ} → r ≡ Ok (Some (spot p i)) → Writes p i x u v old → Meets (map_insert k x) w v (answered (some old))
   insert-over {v} {p} {i} {old} e over =
       let h = adds.here p i e in
       let writes : Writes p i x w v old = rw h.0 at over in
       meets-answered (λ w p. (refl, refl)) (keeps-map-insert k x) pass writes.only.long
       (λ s. let o = overwritten w k h.1 writes s in record { passes = room-there w k o.0; answers = sym o.1; holds = o.2; still = λ z. contrary z refl })
 
-module _ {k : ℕ} {w u : List ℕ} {r : Added} (pass : 0 ≡ refusal (change_tests set_kind w)) (adds : Adds k 0 w u r) where
-  pub set-insert-new : r ≡ added.New → Meets (set_insert k) w u (answered true)
+module _ {k : ℕ} {w u : List ℕ} {r : Result (std.Option Spot) Refusal} (pass : 0 ≡ refusal (change_tests set_kind w)) (adds : Adds k 0 w u r) where
+  set-insert-new : r ≡ Ok None → Meets (set_insert k) w u (answered true)
   set-insert-new e = inserted_new set_kind (keeps-set-insert k) pass adds (λ s n. (rw n, n)) e
 
   -- its entry is like the one that it would have, so no word has changed
-  pub set-insert-present : {p i : ℕ} → r ≡ added.Here p i → Meets (set_insert k) w u (answered false)
+  set-insert-present : {p i : ℕ} → r ≡ Ok (Some (spot p i)) → Meets (set_insert k) w u (answered false)
   unfolding pool_of
   set-insert-present {p} {i} e =
       let h = adds.here p i e in
@@ -149,17 +157,22 @@ module _ {k : ℕ} {w u : List ℕ} {r : Added} (pass : 0 ≡ refusal (change_te
         still = λ z. h.0;
       })
 
+  -- by whether there was none
+  pub set-insert-told : (o : std.Option Spot) → r ≡ Ok o → Meets (set_insert k) w u (answered (is_none o))
+  set-insert-told None e = set-insert-new e
+  set-insert-told (Some x) e = set-insert-present e
+
 -- ---- replace
 
-module _ {k : ℕ} {w : List ℕ} {r : Sought} (x : ℕ) (pass : 0 ≡ refusal (change_tests map_kind w)) (finds : Finds w k r) where
-  pub replace-over : {v : List ℕ} {p i old : ℕ} → r ≡ sought.Here p i → Writes p i x w v old → Meets (map_replace k x) w v (answered (some old))
+module _ {k : ℕ} {w : List ℕ} {r : Result (std.Option Spot) Unsound} (x : ℕ) (pass : 0 ≡ refusal (change_tests map_kind w)) (finds : Finds w k r) where
+  pub replace-over : {v : List ℕ} {p i old : ℕ} → r ≡ Ok (Some (spot p i)) → Writes p i x w v old → Meets (map_replace k x) w v (answered (some old))
   replace-over {p = p} {i = i} e writes =
       meets-answered (λ w p. (refl, refl)) (keeps-map-replace k x) pass writes.only.long
       (λ s.
       let o = overwritten w k (finds.here p i e) writes s in
       record { passes = refl; answers = sym o.1; holds = rw o.0 o.2; still = λ n. contrary o.0 (not-true (member w k) n) })
 
-  pub replace_absent : r ≡ sought.Absent → Meets (map_replace k x) w w (answered none)
+  pub replace_absent : r ≡ Ok None → Meets (map_replace k x) w w (answered none)
   replace_absent e =
       meets-answered (λ w p. (refl, refl)) (keeps-map-replace k x) pass refl
       (λ s. let n = finds.absent e s in record { passes = refl; answers = sym (absent-value w k s n); holds = rw n (sound-written w s); still = λ z. refl })
@@ -169,14 +182,18 @@ module _ {k : ℕ} {w : List ℕ} {r : Sought} (x : ℕ) (pass : 0 ≡ refusal (
 abbrev strikes : {A : Type 0} → ℕ → ℕ → (Pool → A) → Call A
 strikes kind k answer = record { early = change_tests kind; late = λ p. []; answer = answer; after = strike k; still = λ p. not (has k (held_by p)) }
 
-module _ {A : Type 0} (kind : ℕ) {k : ℕ} {answer : Pool → A} {w v : List ℕ} {r : Struck} {a : A}
-    (keeps : Keeps (strikes kind k answer)) (pass : 0 ≡ refusal (change_tests kind w)) (removal : Strikes k w v r) where
-  pub remove-value : {old : ℕ} → (view w k ≡ some old → a ≡ answer (pool_of w)) → r ≡ struck.Value old → Meets (strikes kind k answer) w v (answered a)
+pub there-some : (o : std.Option ℕ) → there (option_of o) ≡ is_some o
+there-some (Some x) = refl
+there-some None = refl
+
+-- by what is struck out, if anything
+module _ {A : Type 0} (kind : ℕ) {k : ℕ} {answer : Pool → A} {w v : List ℕ} {a : A} (keeps : Keeps (strikes kind k answer)) (pass : 0 ≡ refusal (change_tests kind w)) where
+  pub removes : (o : std.Option ℕ) → Strikes k w v (Ok o) → (view w k ≡ option_of o → a ≡ answer (pool_of w)) → Meets (strikes kind k answer) w v (answered a)
   unfolding strike
-  remove-value {old} says e =
+  removes (Some old) removal says =
       meets-answered (λ w p. (refl, refl)) keeps pass removal.long
       (λ s.
-      let o = removal.value old e s in
+      let o = removal.value old refl s in
       let y = value_there w k o.value in
       record {
         passes = refl;
@@ -184,11 +201,8 @@ module _ {A : Type 0} (kind : ℕ) {k : ℕ} {answer : Pool → A} {w v : List �
         holds = rw y o.holds;
         still = λ n. contrary y (not-true (member w k) n);
       })
-
-  pub remove_absent : (view w k ≡ none → a ≡ answer (pool_of w)) → r ≡ struck.Absent → Meets (strikes kind k answer) w v (answered a)
-  unfolding strike
-  remove_absent says e =
-      let h = removal.absent e in
+  removes None removal says =
+      let h = removal.absent refl in
       meets-answered (λ w p. (refl, refl)) keeps pass removal.long
       (λ s. let o = h.1 s in record { passes = refl; answers = says o; holds = rw (h.0, value_none w k o) (sound-written w s); still = λ z. h.0 })
 
@@ -204,50 +218,51 @@ reads-answered : {A : Type 0} (kind : ℕ) {answer : Pool → A} {w : List ℕ} 
     → Meets (reads (read_tests kind) answer) w w (answered a)
 reads-answered kind {answer} pass exact = meets-read (read_tests kind) answer (λ w p. (refl, refl)) pass exact
 
--- what search answers; where two answers would be one, `cc` proves any equation
-value-got : (o : Option ℕ) (read old n : ℕ) → got.Value old n ≡ got_by 0 o read → (o ≡ some old) × (read ≡ n)
-value-got (some v) read old n e = let a : n ≡ 0 + read = cc in (cc, omega arith)
-value-got none read old n e = (cc, cc)
+-- what search answers, taken apart
+abbrev value_in : Result (std.Option search.Found) Unsound → ℕ
+value_in (Ok (Some f)) = f.value
+value_in (Ok None) = 0
+value_in (Err e) = 0
 
-absent-got : (o : Option ℕ) (read : ℕ) → got.Absent ≡ got_by 0 o read → o ≡ none
-absent-got (some v) read e = cc
-absent-got none read e = refl
+abbrev read_in : Result (std.Option search.Found) Unsound → ℕ
+read_in (Ok (Some f)) = f.read
+read_in (Ok None) = 0
+read_in (Err e) = 0
 
-unsound-got : (o : Option ℕ) (read : ℕ) → got.Unsound ≢ got_by 0 o read
-unsound-got (some v) read e = never (cc)
-unsound-got none read e = never (cc)
+-- of a value that there is, and of none
+found-value : (o : Option ℕ) (read : ℕ) {f : search.Found} → Ok (Some f) ≡ got_by 0 o read → (o ≡ some f.value) × (read ≡ f.read)
+found-value (some v) read {f} e = let r : f.read ≡ 0 + read = ap read_in e in (ap some (sym (ap value_in e)), omega arith)
+found-value none read e = never (cc)
 
-module _ (k : ℕ) (w : List ℕ) {r : Got} (gets : Gets w k r × ReadFew (levels_word w) r) where
-  pub gets-value : {old n : ℕ} → r ≡ got.Value old n → Sound w → (view w k ≡ some old) × (pages_read k (pool_of w) ≡ n)
-  gets-value {old} {n} e s = value-got (view w k) (pages_read k (pool_of w)) old n (sym e ∙ gets.0 s)
+found_none : (o : Option ℕ) (read : ℕ) → Ok None ≡ got_by 0 o read → o ≡ none
+found_none (some v) read e = never (cc)
+found_none none read e = refl
+
+never-unsound : (o : Option ℕ) (read : ℕ) (e : Unsound) → Err e ≢ got_by 0 o read
+never-unsound (some v) read e q = never (cc)
+never-unsound none read e q = never (cc)
+
+module _ (k : ℕ) (w : List ℕ) {r : Result (std.Option search.Found) Unsound} (gets : Gets w k r × ReadFew (levels_word w) r) where
+  pub gets-value : {f : search.Found} → r ≡ Ok (Some f) → Sound w → (view w k ≡ some f.value) × (pages_read k (pool_of w) ≡ f.read)
+  gets-value e s = found-value (view w k) (pages_read k (pool_of w)) (sym e ∙ gets.0 s)
 
   -- the pages read are all levels where the key is absent
-  gets-absent : r ≡ got.Absent → Sound w → (view w k ≡ none) × (pages_read k (pool_of w) ≡ levels_word w)
-  gets-absent e s = let o = absent-got (view w k) (pages_read k (pool_of w)) (sym e ∙ gets.0 s) in (o, read-absent k w s (value_none w k o))
+  gets-absent : r ≡ Ok None → Sound w → (view w k ≡ none) × (pages_read k (pool_of w) ≡ levels_word w)
+  gets-absent e s = let o = found_none (view w k) (pages_read k (pool_of w)) (sym e ∙ gets.0 s) in (o, read-absent k w s (value_none w k o))
 
-  pub get-unsound : {A : Type 0} (kind : ℕ) {answer : Pool → A} {read : A → ℕ} → 0 ≡ refusal (read_tests kind w) → r ≡ got.Unsound
+  pub get-unsound : {A : Type 0} (kind : ℕ) {answer : Pool → A} {read : A → ℕ} {x : Unsound} → 0 ≡ refusal (read_tests kind w) → r ≡ Err x
       → ReadsPages (reads (read_tests kind) answer) read w w (refused 9)
-  get-unsound kind {answer} pass e =
+  get-unsound kind {answer} {x = x} pass e =
       pages-refused (meets-unsound (λ w p. (refl, refl)) (keeps-reads (read_tests kind) answer) pass
-      (refl, λ s. unsound-got (view w k) (pages_read k (pool_of w)) (sym e ∙ gets.0 s)))
+      (refl, λ s. never-unsound (view w k) (pages_read k (pool_of w)) x (sym e ∙ gets.0 s)))
 
-  pub get_value : {old n : ℕ} → 0 ≡ refusal (read_tests map_kind w) → r ≡ got.Value old n
-      → ReadsPages (map_get k) (λ f. f.read) w w (answered (record { value = some old; read = n }))
-  get_value {old} {n} pass e = pages-told (reads-answered map_kind pass (λ s. let g = gets-value e s in cc)) (gets.1 old n e)
+  pub get_value : (kind : ℕ) {f : search.Found} → 0 ≡ refusal (read_tests kind w) → r ≡ Ok (Some f)
+      → ReadsPages (gets_in kind k) (λ f. f.read) w w (answered (record { value = some f.value; read = f.read }))
+  get_value kind {f} pass e = pages-told (reads-answered kind pass (λ s. let g = gets-value e s in cc)) (gets.1 f e)
 
-  pub get_absent : {n : ℕ} → 0 ≡ refusal (read_tests map_kind w) → r ≡ got.Absent → n ≡ levels_word w
-      → ReadsPages (map_get k) (λ f. f.read) w w (answered (record { value = none; read = n }))
-  get_absent pass e levels = pages-told (reads-answered map_kind pass (λ s. let g = gets-absent e s in cc)) (omega arith)
-
-  pub set-contains-present : {old n : ℕ} → 0 ≡ refusal (read_tests set_kind w) → r ≡ got.Value old n
-      → ReadsPages (set_contains k) (λ f. f.read) w w (answered (record { present = true; read = n }))
-  set-contains-present {old} {n} pass e =
-      pages-told (reads-answered set_kind pass (λ s. let g = gets-value e s in cc (value_there w k g.0))) (gets.1 old n e)
-
-  pub set-contains-absent : {n : ℕ} → 0 ≡ refusal (read_tests set_kind w) → r ≡ got.Absent → n ≡ levels_word w
-      → ReadsPages (set_contains k) (λ f. f.read) w w (answered (record { present = false; read = n }))
-  set-contains-absent pass e levels =
-      pages-told (reads-answered set_kind pass (λ s. let g = gets-absent e s in cc (value_none w k g.0))) (omega arith)
+  pub get_absent : (kind : ℕ) {n : ℕ} → 0 ≡ refusal (read_tests kind w) → r ≡ Ok None → n ≡ levels_word w
+      → ReadsPages (gets_in kind k) (λ f. f.read) w w (answered (record { value = none; read = n }))
+  get_absent kind pass e levels = pages-told (reads-answered kind pass (λ s. let g = gets-absent e s in cc)) (omega arith)
 
 -- ---- a reading call by another of the same tests
 
@@ -282,20 +297,34 @@ module _ {A B : Type 0} (f : A → B) (tests : List ℕ → List Test) (one : Po
   pages-mapped read read' kept (answered a) pages = pages-told (reads-mapped (answered a) pages.meets) (rw kept (pages.few a refl))
 
 -- contains answers whether get does
-abbrev seen_of : Found → Seen
-seen_of a = record { present = there a.value; read = a.read }
+abbrev there_of : Found → Seen
+there_of a = record { present = there a.value; read = a.read }
 
-pub contains-by-get : (k : ℕ) (w : List ℕ) {r r' : Outcome Found} → r ≡ r' → ReadsPages (map_get k) (λ f. f.read) w w r
-    → ReadsPages (map_contains k) (λ f. f.read) w w (mapped seen_of r')
-contains-by-get k w {r} e pages =
-    let h = has-lookup k (held_by (pool_of w)) in
-    rw e at (pages-mapped seen_of (read_tests map_kind) (found k) (seen k) w (cc) (λ f. f.read) (λ f. f.read) (λ a. refl) r pages)
+module _ (kind k : ℕ) (w : List ℕ) where
+  pub contains-by-get : {r : Outcome Found} → ReadsPages (gets_in kind k) (λ f. f.read) w w r
+      → ReadsPages (contains_in kind k) (λ f. f.read) w w (mapped there_of r)
+  contains-by-get {r} pages =
+      let h = has-lookup k (held_by (pool_of w)) in
+      pages-mapped there_of (read_tests kind) (found k) (seen k) w (cc) (λ f. f.read) (λ f. f.read) (λ a. refl) r pages
+
+  pub contains-there : (g : GotBy) {b : Bool} → b ≡ is_some g.value → ReadsPages (gets_in kind k) (λ f. f.read) w w (answered (found_of g))
+      → ReadsPages (contains_in kind k) (λ f. f.read) w w (answered (record { present = b; read = g.read }))
+  contains-there g e pages = rw (e, ← there-some g.value) (contains-by-get pages)
 
 -- a set's get answers the key where contains says that it is there
 abbrev key_of : ℕ → Seen → Found
 key_of k a = record { value = cond a.present (some k) none; read = a.read }
 
-pub set-get-by-contains : (k : ℕ) (w : List ℕ) {r r' : Outcome Seen} → r ≡ r' → ReadsPages (set_contains k) (λ f. f.read) w w r
-    → ReadsPages (set_get k) (λ f. f.read) w w (mapped (key_of k) r')
-set-get-by-contains k w {r} e pages =
-    rw e at (pages-mapped (key_of k) (read_tests set_kind) (seen k) (λ p. key_of k (seen k p)) w refl (λ f. f.read) (λ f. f.read) (λ a. refl) r pages)
+module _ (k : ℕ) (w : List ℕ) where
+  pub set-get-by-contains : {r : Outcome Seen} → ReadsPages (set_contains k) (λ f. f.read) w w r
+      → ReadsPages (set_get k) (λ f. f.read) w w (mapped (key_of k) r)
+  set-get-by-contains {r} pages =
+      pages-mapped (key_of k) (read_tests set_kind) (seen k) (λ p. key_of k (seen k p)) w refl (λ f. f.read) (λ f. f.read) (λ a. refl) r pages
+
+  pub set-get-there : (s : SeenBy) → s.present ≡ true → ReadsPages (set_contains k) (λ f. f.read) w w (answered (seen_of s))
+      → ReadsPages (set_get k) (λ f. f.read) w w (answered (record { value = some k; read = s.read }))
+  set-get-there s y pages = rw y at (set-get-by-contains pages)
+
+  pub set-get-none : (s : SeenBy) → s.present ≡ false → ReadsPages (set_contains k) (λ f. f.read) w w (answered (seen_of s))
+      → ReadsPages (set_get k) (λ f. f.read) w w (answered (record { value = none; read = s.read }))
+  set-get-none s n pages = rw n at (set-get-by-contains pages)

@@ -2,7 +2,7 @@
 -- before the upper bound, and what a list has come to after i entries, which each turn of the loop takes on and each
 -- way out turns into the promise.
 -- Assumes nothing.
-use mathlib.Core.Path.{◌≡◌, refl, sym, ap, ap₂, subst, ◌∙◌}
+use mathlib.Core.Path.{◌≡◌, refl, sym, ap, subst, ◌∙◌}
 use mathlib.Core.Bool.{Bool, true, false}
 use mathlib.Core.Option.{Option, none, some}
 use mathlib.Core.List.{List, [], ◌∷◌, ◌++◌, map, map-append}
@@ -11,17 +11,15 @@ use native.Mathlib.Nat.{add-zero}
 use native.Mathlib.Numerals.{add-one}
 use native.Mathlib.Omega.{arith}
 use lib.ListN.{length, take, drop, get_or, set, length-drop, length-map, length-set}
+use Rattle.std.specs.Prelude.{Result, Ok, None, Some, Err}
 use lib.Seq.{take-nil, take-suc, length-take-le, get_or-drop}
 use Rattle.model.specs.Tree.{Entry, entry, no_entry, entries, size}
 use Rattle.model.specs.Entries.{gap_of, next, forth}
 use Rattle.tree.specs.declared.search.Aim.{Aim}
-use Rattle.tree.specs.declared.steps.Step.{Step}
-use Rattle.tree.specs.declared.steps.Step.TheVariants as step
 use Rattle.tree.specs.Sits.{PathIn, PathOf, OnPath}
 use Rattle.tree.specs.Search.{aimed}
-use Rattle.tree.specs.Steps.{step_by, Forth}
-use Rattle.map.specs.declared.list.Listed.{Listed}
-use Rattle.map.specs.declared.list.Listed.TheVariants as listed
+use Rattle.tree.specs.Steps.{step_by, Forth, Step}
+use Rattle.map.specs.declared.refusal.Refusal.{Refusal}
 use Rattle.map.specs.List.{laid, front, Stops, ColumnsHold, Runs}
 use Rattle.model.proofs.Cases.{never}
 use Rattle.model.proofs.Basics.{next-some, found_some, found_none}
@@ -78,20 +76,35 @@ module _ (es : List Entry) (ks₀ vs₀ : List ℕ) where
   })
 
   filled-holds : (upper : Aim) (n : ℕ) {i : ℕ} {ks vs : List ℕ} → Filled (aimed upper) es ks₀ vs₀ i ks vs → min n (gap_of (aimed upper) es) ≡ i
-      → ColumnsHold (front upper n es) ks₀ vs₀ ks vs (listed.Wrote i)
+      → ColumnsHold (front upper n es) ks₀ vs₀ ks vs (Ok i)
   filled-holds upper n {i} f all = rw all (record {
-    wrote = ap listed.Wrote (sym (length-take-le i es (omega (arith, f.few, gap-le (aimed upper) es))));
+    wrote = ap Ok (sym (length-take-le i es (omega (arith, f.few, gap-le (aimed upper) es))));
     keys = f.keys;
     values = f.values;
   })
 
 -- ---- a step from gap g + i
 
-step-some : (o : Option Entry) (k v : ℕ) → step.Entry k v ≡ step_by o → some (entry k v) ≡ o
-step-some (some e) k v q = ap₂ (λ (a b : ℕ). some (entry a b)) (cc) (cc)
+-- what a step over an entry answers
+abbrev pub went : ℕ → ℕ → Step
+went k v = Ok (Some (record { key = k; value = v }))
+
+-- the key and the value that are answered
+abbrev key_told : Step → ℕ
+key_told (Ok (Some e)) = e.key
+key_told (Ok None) = 0
+key_told (Err e) = 0
+
+abbrev value_told : Step → ℕ
+value_told (Ok (Some e)) = e.value
+value_told (Ok None) = 0
+value_told (Err e) = 0
+
+step-some : (o : Option Entry) (k v : ℕ) → went k v ≡ step_by o → some (entry k v) ≡ o
+step-some (some e) k v q = ap (λ (r : Step). some (entry (key_told r) (value_told r))) q
 step-some none k v q = never (cc)
 
-step_end : (o : Option Entry) (r : Step) → r ≡ step_by o → ((k v : ℕ) → r ≡ step.Entry k v → ⊥) → (r ≡ step.End) × (none ≡ o)
+step_end : (o : Option Entry) (r : Step) → r ≡ step_by o → ((k v : ℕ) → r ≡ went k v → ⊥) → (r ≡ Ok None) × (none ≡ o)
 step_end (some e) r q other = absurd (other e.key e.value q)
 step_end none r q other = (q, refl)
 
@@ -103,7 +116,7 @@ module _ (es : List Entry) (g i : ℕ) where
   pub behind-none : none ≡ next (g + i) es → length (drop g es) ≤ i
   behind-none q = simp length-drop (omega (arith, found_none es (g + i) q))
 
-  step-entry : (k v : ℕ) → step.Entry k v ≡ step_by (next (g + i) es) → Stood (drop g es) i k v
+  step-entry : (k v : ℕ) → went k v ≡ step_by (next (g + i) es) → Stood (drop g es) i k v
   step-entry k v e = let here = behind-some (step-some (next (g + i) es) k v e) in record { there = here.0; key = ap (λ (x : Entry). x.key) here.1; value = ap (λ (x : Entry). x.value) here.1 }
 
   -- and it goes over that
@@ -111,7 +124,7 @@ module _ (es : List Entry) (g i : ℕ) where
   step-forth l = let b = simp length-drop at l in rw (next-some es (g + i) no_entry (omega arith)) (omega arith)
 
   -- where it answers no entry there is none
-  step-none : (r : Step) → r ≡ step_by (next (g + i) es) → ((k v : ℕ) → r ≡ step.Entry k v → ⊥) → (r ≡ step.End) × (length (drop g es) ≤ i)
+  step-none : (r : Step) → r ≡ step_by (next (g + i) es) → ((k v : ℕ) → r ≡ went k v → ⊥) → (r ≡ Ok None) × (length (drop g es) ≤ i)
   step-none r e other = let end = step_end (next (g + i) es) r e other in (end.0, behind-none end.1)
 
 -- ---- a list after i entries
@@ -147,32 +160,32 @@ module _ {w : List ℕ} {upper : Aim} {ps₀ ss₀ : List ℕ} {n : ℕ} {ks₀ 
       omega (arith, (ran.filled low h t g s r b p).few, gap-le (aimed upper) (drop g (entries h t)), length-drop g (entries h t))
 
   -- all that were asked for, or that there are
-  ran-wrote : OnPath w ps₀ ss₀ (λ h t g. min n (gap_of (aimed upper) (drop g (entries h t))) ≡ i) → Runs w upper ps₀ ss₀ n ks₀ vs₀ ks vs (listed.Wrote i)
+  ran-wrote : OnPath w ps₀ ss₀ (λ h t g. min n (gap_of (aimed upper) (drop g (entries h t))) ≡ i) → Runs w upper ps₀ ss₀ n ks₀ vs₀ ks vs (Ok i)
   ran-wrote all = record {
     tells = record { keys = ran.keys; values = ran.values; kept = λ e z. never (cc) };
     late = λ e z. never (cc);
     exact = λ low h t g s r b p. filled-holds (drop g (entries h t)) ks₀ vs₀ upper n (ran.filled low h t g s r b p) (all low h t g s r b p);
   }
 
-  pub ran-full : n ≤ i → Runs w upper ps₀ ss₀ n ks₀ vs₀ ks vs (listed.Wrote n)
+  pub ran-full : n ≤ i → Runs w upper ps₀ ss₀ n ks₀ vs₀ ks vs (Ok n)
   ran-full l =
       let all : i ≡ n = omega (arith, ran.few) in
-      subst (λ (m : ℕ). Runs w upper ps₀ ss₀ n ks₀ vs₀ ks vs (listed.Wrote m)) all
+      subst (λ (m : ℕ). Runs w upper ps₀ ss₀ n ks₀ vs₀ ks vs (Ok m)) all
       (ran-wrote (λ low h t g s r b p. omega (arith, (ran.filled low h t g s r b p).few)))
 
   module _ {ps' ss' : List ℕ} {q : Step} (f : Forth w ps ss ps' ss' q) where
     answer-is : OnPath w ps₀ ss₀ (λ h t g. q ≡ step_by (next (g + i) (entries h t)))
     answer-is low h t g s r b p = f.exact low h t (g + i) s r (gap-in low h t g s r b p) (ran.path low h t g s r b p)
 
-    entry_at : {k v : ℕ} → q ≡ step.Entry k v → OnPath w ps₀ ss₀ (λ h t g. Stood (drop g (entries h t)) i k v)
+    entry_at : {k v : ℕ} → q ≡ went k v → OnPath w ps₀ ss₀ (λ h t g. Stood (drop g (entries h t)) i k v)
     entry_at {k} {v} e low h t g s r b p = step-entry (entries h t) g i k v (sym e ∙ answer-is low h t g s r b p)
 
     -- one more
-    pub ran-more : {k v : ℕ} {ks' vs' : List ℕ} → q ≡ step.Entry k v → i < n → aimed upper k ≡ true → ks' ≡ set ks i k → vs' ≡ set vs i v
+    pub ran-more : {k v : ℕ} {ks' vs' : List ℕ} → q ≡ went k v → i < n → aimed upper k ≡ true → ks' ≡ set ks i k → vs' ≡ set vs i v
         → Ran w upper ps₀ ss₀ n ks₀ vs₀ ps' ss' ks' vs' (i + 1)
     ran-more {k} {v} e l y eₖ eᵥ = rw (eₖ, eᵥ) (record {
       few = omega arith;
-      inside = f.inside k v e;
+      inside = f.inside _ e;
       pages = f.pages ∙ ran.pages;
       slots = f.slots ∙ ran.slots;
       keys = length-set ks i k ∙ ran.keys;
@@ -186,7 +199,7 @@ module _ {w : List ℕ} {upper : Aim} {ps₀ ss₀ : List ℕ} {n : ℕ} {ks₀ 
     })
 
     -- the next entry is not before the upper bound
-    pub ran-behind : {k v : ℕ} → q ≡ step.Entry k v → aimed upper k ≡ false → Runs w upper ps₀ ss₀ n ks₀ vs₀ ks vs (listed.Wrote i)
+    pub ran-behind : {k v : ℕ} → q ≡ went k v → aimed upper k ≡ false → Runs w upper ps₀ ss₀ n ks₀ vs₀ ks vs (Ok i)
     ran-behind e y =
         ran-wrote
         (λ low h t g s r b p.
@@ -196,7 +209,7 @@ module _ {w : List ℕ} {upper : Aim} {ps₀ ss₀ : List ℕ} {n : ℕ} {ks₀ 
         omega (arith, ran.few))
 
     -- there is no next entry
-    pub ran-end : {a : Listed} → ((k v : ℕ) → q ≡ step.Entry k v → ⊥) → Stops q i a → Runs w upper ps₀ ss₀ n ks₀ vs₀ ks vs a
+    pub ran-end : {a : Result ℕ Refusal} → ((k v : ℕ) → q ≡ went k v → ⊥) → Stops q i a → Runs w upper ps₀ ss₀ n ks₀ vs₀ ks vs a
     ran-end other stop = record {
       tells = record { keys = ran.keys; values = ran.values; kept = λ e z. ran.none (stop.stops e z).1 };
       late = λ e z. (stop.stops e z).0;

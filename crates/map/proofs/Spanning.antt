@@ -9,6 +9,7 @@ use Prim.Native.Nat.{ℕ, min, ◌≤◌}
 use native.Mathlib.Omega.{arith}
 use lib.ListN.{length, take, drop, length-take, length-map}
 use lib.Seq.{take_all}
+use Rattle.std.specs.Prelude.{Result, Ok, Err, ⊤}
 use Rattle.model.specs.Basics.{All}
 use Rattle.model.specs.Tree.{Entry, Rising, held}
 use Rattle.model.specs.Bound.{Bound, included, excluded, unbounded, before_lower, before_upper}
@@ -21,21 +22,18 @@ use Rattle.model.specs.MapCalls.{read_tests}
 use Rattle.model.specs.ListCalls.{Column, key_column, value_column, Lists, list_tests, shortest, fronted}
 use Rattle.tree.specs.declared.search.Aim.{Aim}
 use Rattle.tree.specs.Search.{aimed, Seeks}
-use Rattle.map.specs.declared.bound.Bound.{Bound as CodeBound}
-use Rattle.map.specs.declared.bound.Bound.TheVariants as bound
-use Rattle.map.specs.declared.list.Listed.{Listed}
-use Rattle.map.specs.declared.list.Listed.TheVariants as listed
 use Rattle.map.specs.declared.refusal.Refusal.{Refusal}
 use Rattle.map.specs.declared.refusal.Refusal.TheVariants as reason
-use Rattle.map.specs.Answers.{number_of, listed_of}
-use Rattle.map.specs.Bound.{lower_aim, upper_aim}
+use Rattle.map.specs.Answers.{number_of, outcome_of, itself}
+use Rattle.map.specs.Bound.{lower_aim, upper_aim, aim_by}
 use Rattle.map.specs.List.{laid, Tells, front, Runs, Spans, Fills}
-use Rattle.model.proofs.Cases.{either, contrary, never}
+use Rattle.model.proofs.Cases.{never}
 use Rattle.model.proofs.Basics.{all_map, take_min}
 use Rattle.model.proofs.Entries.{falls-upper, gap-le, gap-slice, inside-slice}
 use Rattle.model.proofs.Meets.{reading-first, reading-passed}
 use Rattle.tree.proofs.Sitting.{sound-sits}
-use Rattle.map.proofs.Answers.{number-some}
+use Rattle.map.proofs.Answers.{number-some, outcome-refused}
+use Rattle.page.specs.declared.Unsound.{Unsound}
 
 -- ---- the gaps of two bounds
 
@@ -58,20 +56,20 @@ front-between low high n es r =
 
 -- ---- from the gap of `lower`
 
-nothing_written : {ks vs : List ℕ} {r : Listed} → Tells ks vs ks vs r
+nothing_written : {ks vs : List ℕ} {r : Result ℕ Refusal} → Tells ks vs ks vs r
 nothing_written = record { keys = refl; values = refl; kept = λ _ _. (refl, refl) }
 
-module _ {w : List ℕ} {lower upper : Aim} {ps ss ps' ss' : List ℕ} {n : ℕ} {ks vs : List ℕ} {b : Bool} (sought : Seeks w lower ps ss ps' ss' b) where
+module _ {w : List ℕ} {lower upper : Aim} {ps ss ps' ss' : List ℕ} {n : ℕ} {ks vs : List ℕ} {b : Result ⊤ Unsound} (sought : Seeks w lower ps ss ps' ss' b) where
   -- no path: nothing is written
-  pub spans-none : b ≡ false → Spans w lower upper n ks vs ks vs (listed.Refused reason.Unsound)
+  pub spans-none : {x : Unsound} → b ≡ Err x → Spans w lower upper n ks vs ks vs (Err reason.Unsound)
   spans-none e =
       record {
         tells = nothing_written;
         late = λ x q. cc;
-        exact = λ s. contrary (sought.sound s) e;
+        exact = λ s. never (cc (sought.sound s, e));
       }
 
-  pub spans-run : {ks' vs' : List ℕ} {r : Listed} → Runs w upper ps' ss' n ks vs ks' vs' r → Spans w lower upper n ks vs ks' vs' r
+  pub spans-run : {ks' vs' : List ℕ} {r : Result ℕ Refusal} → Runs w upper ps' ss' n ks vs ks' vs' r → Spans w lower upper n ks vs ks' vs' r
   unfolding pool_of held
   spans-run runs =
       record {
@@ -82,13 +80,8 @@ module _ {w : List ℕ} {lower upper : Aim} {ps ss ps' ss' : List ℕ} {n : ℕ}
 
 -- ---- between two bounds, where no test refuses
 
--- a refusal's number is given for that refusal
-pub listed-refused : {C : Type 0} (r : Listed) (m : ℕ) → listed_of r ≡ refused m → ((e : Refusal) → r ≡ listed.Refused e → number_of e ≡ m → C) → C
-listed-refused (listed.Wrote n) m q then = never (cc)
-listed-refused (listed.Refused e) m q then = then e refl (cc)
-
 module _ {tests : List Test} {low high : Bound} {w : List ℕ} {n : ℕ} {ks vs : List ℕ} where
-  pub fills-refused : {e : Refusal} → refusal tests ≡ number_of e → Fills tests low high w n ks vs ks vs (listed.Refused e)
+  pub fills-refused : {e : Refusal} → refusal tests ≡ number_of e → Fills tests low high w n ks vs ks vs (Err e)
   fills-refused {e} q =
       let some = number-some e in
       record {
@@ -98,14 +91,14 @@ module _ {tests : List Test} {low high : Bound} {w : List ℕ} {n : ℕ} {ks vs 
         exact = λ _ p. absurd (omega arith);
       }
 
-  pub fills-span : {ks' vs' : List ℕ} {r : Listed} {lower upper : Aim} → refusal tests ≡ 0 → lower_aim low ≡ lower → upper_aim high ≡ upper
+  pub fills-span : {ks' vs' : List ℕ} {r : Result ℕ Refusal} {lower upper : Aim} → refusal tests ≡ 0 → lower_aim low ≡ lower → upper_aim high ≡ upper
       → Spans w lower upper n ks vs ks' vs' r → Fills tests low high w n ks vs ks' vs' r
   unfolding pool_of
   fills-span {r} e from to spans =
       record {
         tells = spans.tells;
         early = λ m p. absurd (omega arith);
-        late = λ m _ q. listed-refused r m q (λ x is number. sym number ∙ ap number_of (spans.late x is));
+        late = λ m _ q. outcome-refused itself r m q (λ x is number. sym number ∙ ap number_of (spans.late x is));
         exact = λ s _. rw (← from, ← to, front-between low high n (held_by (pool_of w)) s.rising) at (spans.exact s);
       }
 
@@ -119,30 +112,17 @@ module _ (kind lower upper : ℕ) (w : List ℕ) where
   bounds-last passed = reading-passed kind w _ (sym passed)
 
   module _ (passed : refusal (read_tests kind w) ≡ 0) where
-    pub lower-bad : no_bound lower ≡ true → refusal (list_tests kind lower upper w) ≡ 3
-    lower-bad bad = bounds-last passed ∙ rw bad
-
-    pub upper-bad : no_bound upper ≡ true → refusal (list_tests kind lower upper w) ≡ 3
-    upper-bad bad = bounds-last passed ∙ either (no_bound lower) (λ y. rw y) (λ n. rw (n, bad))
-
     pub bounds-good : no_bound lower ≡ false → no_bound upper ≡ false → refusal (list_tests kind lower upper w) ≡ 0
     bounds-good low high = bounds-last passed ∙ rw (low, high)
 
 -- what a bound in code tells
-module _ (kind : ℕ) (aim : Aim) {r : CodeBound} (said : r ≡ cond (no_bound kind) bound.Unknown (bound.At aim)) where
-  pub bound-known : {a : Aim} → r ≡ bound.At a → (no_bound kind ≡ false) × (aim ≡ a)
+module _ (kind : ℕ) (aim : Aim) {r : Result Aim Refusal} (said : r ≡ aim_by kind aim) where
+  pub bound-known : {a : Aim} → r ≡ Ok a → (no_bound kind ≡ false) × (aim ≡ a)
   bound-known is = go (no_bound kind) (sym said ∙ is)
     where
-      go : (b : Bool) {a : Aim} → cond b bound.Unknown (bound.At aim) ≡ bound.At a → (b ≡ false) × (aim ≡ a)
+      go : (b : Bool) {a : Aim} → cond b (Err reason.BadBound) (Ok aim) ≡ Ok a → (b ≡ false) × (aim ≡ a)
       go true e = never (cc)
       go false e = (refl, cc)
-
-  pub bound-unknown : r ≡ bound.Unknown → no_bound kind ≡ true
-  bound-unknown is = go (no_bound kind) (sym said ∙ is)
-    where
-      go : (b : Bool) → cond b bound.Unknown (bound.At aim) ≡ bound.Unknown → b ≡ true
-      go true e = refl
-      go false e = never (cc)
 
 -- ---- what is laid over the slices is what a list writes
 
@@ -150,7 +130,7 @@ pub laid-written : (xs s : List ℕ) → length xs ≤ length s → laid xs s �
 unfolding laid
 laid-written xs s l = rw (take_all (length s) xs l)
 
-module _ {tests : List Test} {low high : Bound} {w : List ℕ} {n : ℕ} {ks vs ks' vs' : List ℕ} {r : Listed} (fills : Fills tests low high w n ks vs ks' vs' r) where
+module _ {tests : List Test} {low high : Bound} {w : List ℕ} {n : ℕ} {ks vs ks' vs' : List ℕ} {r : Result ℕ Refusal} (fills : Fills tests low high w n ks vs ks' vs' r) where
   abbrev entries : List Entry
   entries = take n (between low high (held_by (pool_of w)))
 
@@ -158,7 +138,7 @@ module _ {tests : List Test} {low high : Bound} {w : List ℕ} {n : ℕ} {ks vs 
   record Takes (c : Column) : Type 0 where
     long : length c.after ≡ length c.before
     room : n ≤ length c.before
-    kept : (e : Refusal) → r ≡ listed.Refused e → c.after ≡ c.before
+    kept : (e : Refusal) → r ≡ Err e → c.after ≡ c.before
     lays : Sound w → refusal tests ≡ 0 → c.after ≡ laid (map c.part entries) c.before
 
   takes-keys : n ≤ length ks → Takes (key_column ks ks')
@@ -172,22 +152,22 @@ module _ {tests : List Test} {low high : Bound} {w : List ℕ} {n : ℕ} {ks vs 
       let room = t.room in
       t.lays s p ∙ laid-written (map c.part entries) c.before (simp (length-map, length-take) (omega arith))
 
-  lists : (cs : List Column) → n ≡ shortest cs → All Takes cs → Lists tests low high w cs (listed_of r)
+  lists : (cs : List Column) → n ≡ shortest cs → All Takes cs → Lists tests low high w cs (outcome_of itself r)
   lists cs e all =
       record {
         long = all_map Takes (λ c. length c.after ≡ length c.before) cs (λ c t. t.long) all;
         early = fills.early;
         late = fills.late;
-        kept = λ m q. listed-refused r m q (λ x is _. all_map Takes (λ c. c.after ≡ c.before) cs (λ c t. t.kept x is) all);
-        exact = λ s p. rw (← e) (ap listed_of (fills.exact s p).wrote);
+        kept = λ m q. outcome-refused itself r m q (λ x is _. all_map Takes (λ c. c.after ≡ c.before) cs (λ c t. t.kept x is) all);
+        exact = λ s p. rw (← e) (ap (outcome_of itself) (fills.exact s p).wrote);
         writes = λ s p. rw (← e) (all_map Takes (λ c. c.after ≡ fronted (map c.part entries) c.before) cs (λ c t. writes c t s p) all);
       }
 
-  pub lists-keys : n ≡ length ks → Lists tests low high w (key_column ks ks' ∷ []) (listed_of r)
+  pub lists-keys : n ≡ length ks → Lists tests low high w (key_column ks ks' ∷ []) (outcome_of itself r)
   lists-keys e = lists _ e (takes-keys (omega arith), tt)
 
-  pub lists-values : n ≡ length vs → Lists tests low high w (value_column vs vs' ∷ []) (listed_of r)
+  pub lists-values : n ≡ length vs → Lists tests low high w (value_column vs vs' ∷ []) (outcome_of itself r)
   lists-values e = lists _ e (takes-values (omega arith), tt)
 
-  pub lists-both : n ≡ min (length ks) (length vs) → Lists tests low high w (key_column ks ks' ∷ value_column vs vs' ∷ []) (listed_of r)
+  pub lists-both : n ≡ min (length ks) (length vs) → Lists tests low high w (key_column ks ks' ∷ value_column vs vs' ∷ []) (outcome_of itself r)
   lists-both e = lists _ e (takes-keys (omega arith), (takes-values (omega arith), tt))

@@ -5,34 +5,30 @@ ghost use Rattle.std.specs.Prelude.{◌≡◌};
 ghost use Rattle.tree.specs.Search.{aimed};
 ghost use Rattle.map.specs.Bound.{lower_by, upper_by};
 
+use crate::refusal::Refusal;
 use tree::search::Aim;
 
-// The gap that a bound names, where its kind is known.
-#[derive(Clone, Copy)]
-pub enum Bound {
-    At(Aim),
-    Unknown,
-}
-
-pub fn lower(kind: u64, key: u64) -> Bound
+// The gap that a lower bound names.
+pub fn lower(kind: u64, key: u64) -> Result<Aim, Refusal>
     ensures { result ≡ lower_by kind key }
 {
     match kind {
-        0 => Bound::At(Aim::Before(key)),
-        1 => Bound::At(Aim::After(key)),
-        2 => Bound::At(Aim::Start),
-        3.. => Bound::Unknown,
+        0 => Ok(Aim::Before(key)),
+        1 => Ok(Aim::After(key)),
+        2 => Ok(Aim::Start),
+        3.. => Err(Refusal::BadBound),
     }
 }
 
-pub fn upper(kind: u64, key: u64) -> Bound
+// The gap that an upper bound names.
+pub fn upper(kind: u64, key: u64) -> Result<Aim, Refusal>
     ensures { result ≡ upper_by kind key }
 {
     match kind {
-        0 => Bound::At(Aim::After(key)),
-        1 => Bound::At(Aim::Before(key)),
-        2 => Bound::At(Aim::End),
-        3.. => Bound::Unknown,
+        0 => Ok(Aim::After(key)),
+        1 => Ok(Aim::Before(key)),
+        2 => Ok(Aim::End),
+        3.. => Err(Refusal::BadBound),
     }
 }
 

@@ -1,61 +1,42 @@
-// One entry, by its key, in a pool of either kind whose head fits: where it stands; and, where the cursor is closed, a
-// new one put in, one struck out. One descent each. The path is lent from two small arrays in the frame.
+// One entry, by its key, in a pool of either kind: where it stands, in a pool whose head fits; where the cursor is
+// closed too, a new one put in, one struck out; and get and contains, which are asked for a kind. One descent each. The
+// path is lent from two small arrays in the frame.
 ghost use Rattle.std.specs.Prelude.{◌≡◌, true, length};
 ghost use Rattle.model.specs.Head.{levels_word, headed};
-ghost use Rattle.map.specs.Entry.{Changeable, SeeksKey, Finds, Adds, Strikes};
+ghost use Rattle.model.specs.Call.{ReadsPages};
+ghost use Rattle.map.specs.Answers.{outcome_of, found_of, seen_of};
+ghost use Rattle.map.specs.Entry.{Changeable, SeeksKey, Finds, Adds, Strikes, gets_in, contains_in};
 
+use crate::refusal::Refusal;
+use crate::{Got, Seen, refusal};
 use model::MOST_LEVELS;
-use page::Change;
-use tree::insert::Inserted;
+use page::{Entry, Unsound};
 use tree::search::Aim;
 use tree::steps::Spot;
 
-// Where a key's entry stands: its page and slot.
-#[derive(Clone, Copy)]
-pub enum Sought {
-    Here(usize, usize),
-    Absent,
-    Unsound,
-}
-
-// A key's entry put in, or where the one stands that it has.
-#[derive(Clone, Copy)]
-pub enum Added {
-    New,
-    Here(usize, usize),
-    Full,
-    Unsound,
-}
-
-// A key's entry struck out: the value that it had.
-#[derive(Clone, Copy)]
-pub enum Struck {
-    Value(u64),
-    Absent,
-    Unsound,
-}
-
 // The path of the gap before a key, and whether the entry after it is the key's.
-pub fn seek(pool: &[u64], key: u64, pages: &mut [usize], slots: &mut [usize]) -> Sought
+pub fn seek(
+    pool: &[u64],
+    key: u64,
+    pages: &mut [usize],
+    slots: &mut [usize],
+) -> Result<Option<Spot>, Unsound>
     requires pool_value { headed pool.now ≡ true }
     requires pages_len { (length pages.old ≡ levels_word pool.now) × (length slots.old ≡ levels_word pool.now) }
     ensures { SeeksKey pool.now key pages.old slots.old pages.new slots.new result }
 {
-    if !tree::search::seek(pool, Aim::Before(key), pages, slots) {
-        return Sought::Unsound;
-    }
-    let Spot::At(p, slot) = tree::steps::spot_after(pool, pages, slots) else {
-        return Sought::Absent;
+    tree::search::seek(pool, Aim::Before(key), pages, slots)?;
+    let Some(spot) = tree::steps::spot_after(pool, pages, slots) else {
+        return Ok(None);
     };
-    let e = lend::pages::entry_at(pool, p, slot);
-    if e.key == key {
-        return Sought::Here(p, slot);
+    if lend::pages::entry_at(pool, spot.page, spot.slot).key == key {
+        return Ok(Some(spot));
     }
-    Sought::Absent
+    Ok(None)
 }
 
-// Where a key's entry stands.
-pub fn find(pool: &[u64], key: u64) -> Sought
+// Where a key's entry stands, if it is there.
+pub fn find(pool: &[u64], key: u64) -> Result<Option<Spot>, Unsound>
     requires { headed pool.now ≡ true }
     ensures { Finds pool.now key result }
 {
@@ -65,58 +46,54 @@ pub fn find(pool: &[u64], key: u64) -> Sought
     seek(pool, key, &mut pages[0..levels], &mut slots[0..levels])
 }
 
-fn add_by(pool: &mut [u64], key: u64, value: u64, pages: &mut [usize], slots: &mut [usize]) -> Added
+fn add_by(
+    pool: &mut [u64],
+    entry: Entry,
+    pages: &mut [usize],
+    slots: &mut [usize],
+) -> Result<Option<Spot>, Refusal>
     requires changeable { Changeable pool.old }
     requires pages_len { (length pages.old ≡ levels_word pool.old) × (length slots.old ≡ levels_word pool.old) }
-    ensures { Adds key value pool.old pool.new result }
+    ensures { Adds entry.key entry.value pool.old pool.new result }
 {
-    match seek(pool, key, pages, slots) {
-        Sought::Unsound => Added::Unsound,
-        Sought::Here(p, slot) => Added::Here(p, slot),
-        Sought::Absent => match tree::insert::insert(pool, pages, slots, key, value) {
-            Inserted::Done => Added::New,
-            Inserted::Full => Added::Full,
-        },
+    if let Some(spot) = seek(pool, entry.key, pages, slots)? {
+        return Ok(Some(spot));
     }
+    tree::insert::insert(pool, pages, slots, entry)?;
+    Ok(None)
 }
 
-// The entry of a key that has none.
-pub fn add(pool: &mut [u64], key: u64, value: u64) -> Added
+// The entry of a key that has none; else where the one stands that it has, and no word is changed.
+pub fn add(pool: &mut [u64], entry: Entry) -> Result<Option<Spot>, Refusal>
     requires { Changeable pool.old }
-    ensures { Adds key value pool.old pool.new result }
+    ensures { Adds entry.key entry.value pool.old pool.new result }
 {
     let levels = lend::head::levels(pool);
     let mut pages = [0usize; MOST_LEVELS];
     let mut slots = [0usize; MOST_LEVELS];
-    add_by(
-        pool,
-        key,
-        value,
-        &mut pages[0..levels],
-        &mut slots[0..levels],
-    )
+    add_by(pool, entry, &mut pages[0..levels], &mut slots[0..levels])
 }
 
-fn strike_by(pool: &mut [u64], key: u64, pages: &mut [usize], slots: &mut [usize]) -> Struck
+fn strike_by(
+    pool: &mut [u64],
+    key: u64,
+    pages: &mut [usize],
+    slots: &mut [usize],
+) -> Result<Option<u64>, Unsound>
     requires changeable { Changeable pool.old }
     requires pages_len { (length pages.old ≡ levels_word pool.old) × (length slots.old ≡ levels_word pool.old) }
     ensures { Strikes key pool.old pool.new result }
 {
-    match seek(pool, key, pages, slots) {
-        Sought::Unsound => Struck::Unsound,
-        Sought::Absent => Struck::Absent,
-        Sought::Here(p, slot) => {
-            let e = lend::pages::entry_at(pool, p, slot);
-            match tree::remove::remove(pool, pages, slots) {
-                Change::Done => Struck::Value(e.value),
-                Change::Unsound => Struck::Unsound,
-            }
-        }
-    }
+    let Some(spot) = seek(pool, key, pages, slots)? else {
+        return Ok(None);
+    };
+    let struck = lend::pages::entry_at(pool, spot.page, spot.slot);
+    tree::remove::remove(pool, pages, slots)?;
+    Ok(Some(struck.value))
 }
 
-// A key's entry goes.
-pub fn strike(pool: &mut [u64], key: u64) -> Struck
+// A key's entry goes; the value that it had.
+pub fn strike(pool: &mut [u64], key: u64) -> Result<Option<u64>, Unsound>
     requires { Changeable pool.old }
     ensures { Strikes key pool.old pool.new result }
 {
@@ -124,4 +101,34 @@ pub fn strike(pool: &mut [u64], key: u64) -> Struck
     let mut pages = [0usize; MOST_LEVELS];
     let mut slots = [0usize; MOST_LEVELS];
     strike_by(pool, key, &mut pages[0..levels], &mut slots[0..levels])
+}
+
+// ---- the reading calls of both kinds
+
+// The value of a key in a pool of a kind.
+pub fn get(pool: &[u64], kind: u64, key: u64) -> Result<Got, Refusal>
+    ensures { ReadsPages (gets_in kind key) (λ f. f.read) pool.now pool.now (outcome_of found_of result) }
+{
+    refusal::reading(pool, kind)?;
+    match tree::search::get(pool, key)? {
+        Some(found) => Ok(Got {
+            value: Some(found.value),
+            read: found.read,
+        }),
+        None => Ok(Got {
+            value: None,
+            read: lend::head::levels(pool),
+        }),
+    }
+}
+
+// Whether a key is there.
+pub fn contains(pool: &[u64], kind: u64, key: u64) -> Result<Seen, Refusal>
+    ensures { ReadsPages (contains_in kind key) (λ f. f.read) pool.now pool.now (outcome_of seen_of result) }
+{
+    let got = get(pool, kind, key)?;
+    Ok(Seen {
+        present: got.value.is_some(),
+        read: got.read,
+    })
 }

@@ -8,22 +8,14 @@ ghost use Rattle.model.specs.Bound.{bound_of};
 ghost use Rattle.model.specs.Refusal.{map_kind};
 ghost use Rattle.model.specs.ListCalls.{key_column, value_column, Lists, list_tests};
 ghost use Rattle.tree.specs.Sits.{PathIn};
-ghost use Rattle.map.specs.Answers.{listed_of};
+ghost use Rattle.map.specs.Answers.{outcome_of, itself};
 ghost use Rattle.map.specs.List.{Stops, Runs, Spans, Fills};
 
-use crate::bound::Bound;
-use crate::refusal::{Early, MAP, Refusal};
+use crate::refusal::{MAP, Refusal};
 use crate::{bound, refusal};
 use model::MOST_LEVELS;
+use page::{Entry, Unsound};
 use tree::search::Aim;
-use tree::steps::Step;
-
-// How many entries were written.
-#[derive(Clone, Copy)]
-pub enum Listed {
-    Wrote(usize),
-    Refused(Refusal),
-}
 
 // A number into a slice; past its end nothing is stored.
 fn store(slice: &mut [u64], i: usize, value: u64)
@@ -36,17 +28,13 @@ fn store(slice: &mut [u64], i: usize, value: u64)
 
 // A list that ends with no further entry, after `n`: where the pool is found unsound before anything is written it is
 // refused; else it has told what it wrote.
-fn stop(step: Step, n: usize) -> Listed
+fn stop(step: Result<Option<Entry>, Unsound>, n: usize) -> Result<usize, Refusal>
     ensures { Stops step n result }
 {
-    if n != 0 {
-        return Listed::Wrote(n);
+    if n == 0 {
+        step?;
     }
-    match step {
-        Step::Unsound => Listed::Refused(Refusal::Unsound),
-        Step::Entry(_, _) => Listed::Wrote(0),
-        Step::End => Listed::Wrote(0),
-    }
+    Ok(n)
 }
 
 // The entries after the path's gap, up to the gap of `upper`, at most `most` of them.
@@ -58,25 +46,23 @@ fn run(
     most: usize,
     keys: &mut [u64],
     values: &mut [u64],
-) -> Listed
+) -> Result<usize, Refusal>
     requires today_in_bounds { first_word today 0 ≤ length pool.now }
     requires path_in { PathIn pool.now pages.old slots.old }
     ensures { Runs pool.now upper pages.old slots.old most keys.old values.old keys.new values.new result }
 {
-    let mut i: usize = 0;
-    while i < most {
+    for i in 0..most {
         let step = tree::steps::next(pool, pages, slots);
-        let Step::Entry(key, value) = step else {
+        let Ok(Some(e)) = step else {
             return stop(step, i);
         };
-        if !bound::before(upper, key) {
-            return Listed::Wrote(i);
+        if !bound::before(upper, e.key) {
+            return Ok(i);
         }
-        store(keys, i, key);
-        store(values, i, value);
-        i += 1;
+        store(keys, i, e.key);
+        store(values, i, e.value);
     }
-    Listed::Wrote(most)
+    Ok(most)
 }
 
 fn span_by(
@@ -88,14 +74,12 @@ fn span_by(
     most: usize,
     keys: &mut [u64],
     values: &mut [u64],
-) -> Listed
+) -> Result<usize, Refusal>
     requires pool_value { headed pool.now ≡ true }
     requires pages_len { (length pages.old ≡ levels_word pool.now) × (length slots.old ≡ levels_word pool.now) }
     ensures { Spans pool.now lower upper most keys.old values.old keys.new values.new result }
 {
-    if !tree::search::seek(pool, lower, pages, slots) {
-        return Listed::Refused(Refusal::Unsound);
-    }
+    tree::search::seek(pool, lower, pages, slots)?;
     run(pool, upper, pages, slots, most, keys, values)
 }
 
@@ -107,7 +91,7 @@ fn span(
     most: usize,
     keys: &mut [u64],
     values: &mut [u64],
-) -> Listed
+) -> Result<usize, Refusal>
     requires { headed pool.now ≡ true }
     ensures { Spans pool.now lower upper most keys.old values.old keys.new values.new result }
 {
@@ -137,19 +121,12 @@ fn fill(
     most: usize,
     keys: &mut [u64],
     values: &mut [u64],
-) -> Listed
+) -> Result<usize, Refusal>
     ensures { Fills (list_tests kind lower upper pool.now) (bound_of lower from) (bound_of upper to) pool.now most keys.old values.old keys.new values.new result }
 {
-    match refusal::reading(pool, kind) {
-        Early::Refused(n) => return Listed::Refused(n),
-        Early::Pass => {}
-    }
-    let Bound::At(start) = bound::lower(lower, from) else {
-        return Listed::Refused(Refusal::BadBound);
-    };
-    let Bound::At(end) = bound::upper(upper, to) else {
-        return Listed::Refused(Refusal::BadBound);
-    };
+    refusal::reading(pool, kind)?;
+    let start = bound::lower(lower, from)?;
+    let end = bound::upper(upper, to)?;
     span(pool, start, end, most, keys, values)
 }
 
@@ -162,22 +139,11 @@ pub fn keys_of(
     upper: u64,
     to: u64,
     keys: &mut [u64],
-) -> Listed
-    ensures { Lists (list_tests kind lower upper pool.now) (bound_of lower from) (bound_of upper to) pool.now (key_column keys.old keys.new ∷ []) (listed_of result) }
+) -> Result<usize, Refusal>
+    ensures { Lists (list_tests kind lower upper pool.now) (bound_of lower from) (bound_of upper to) pool.now (key_column keys.old keys.new ∷ []) (outcome_of itself result) }
 {
     let most = keys.len();
-    let mut none = [0u64; 1];
-    fill(
-        pool,
-        kind,
-        lower,
-        from,
-        upper,
-        to,
-        most,
-        keys,
-        &mut none[0..0],
-    )
+    fill(pool, kind, lower, from, upper, to, most, keys, &mut [])
 }
 
 // ---- the map's lists
@@ -190,18 +156,22 @@ pub fn entries(
     to: u64,
     keys: &mut [u64],
     values: &mut [u64],
-) -> Listed
-    ensures { Lists (list_tests map_kind lower upper pool.now) (bound_of lower from) (bound_of upper to) pool.now (key_column keys.old keys.new ∷ value_column values.old values.new ∷ []) (listed_of result) }
+) -> Result<usize, Refusal>
+    ensures { Lists (list_tests map_kind lower upper pool.now) (bound_of lower from) (bound_of upper to) pool.now (key_column keys.old keys.new ∷ value_column values.old values.new ∷ []) (outcome_of itself result) }
 {
-    let mut most = keys.len();
-    if values.len() < most {
-        most = values.len();
-    }
+    let most = keys.len().min(values.len());
     fill(pool, MAP, lower, from, upper, to, most, keys, values)
 }
 
-pub fn keys(pool: &[u64], lower: u64, from: u64, upper: u64, to: u64, keys: &mut [u64]) -> Listed
-    ensures { Lists (list_tests map_kind lower upper pool.now) (bound_of lower from) (bound_of upper to) pool.now (key_column keys.old keys.new ∷ []) (listed_of result) }
+pub fn keys(
+    pool: &[u64],
+    lower: u64,
+    from: u64,
+    upper: u64,
+    to: u64,
+    keys: &mut [u64],
+) -> Result<usize, Refusal>
+    ensures { Lists (list_tests map_kind lower upper pool.now) (bound_of lower from) (bound_of upper to) pool.now (key_column keys.old keys.new ∷ []) (outcome_of itself result) }
 {
     keys_of(pool, MAP, lower, from, upper, to, keys)
 }
@@ -213,20 +183,9 @@ pub fn values(
     upper: u64,
     to: u64,
     values: &mut [u64],
-) -> Listed
-    ensures { Lists (list_tests map_kind lower upper pool.now) (bound_of lower from) (bound_of upper to) pool.now (value_column values.old values.new ∷ []) (listed_of result) }
+) -> Result<usize, Refusal>
+    ensures { Lists (list_tests map_kind lower upper pool.now) (bound_of lower from) (bound_of upper to) pool.now (value_column values.old values.new ∷ []) (outcome_of itself result) }
 {
     let most = values.len();
-    let mut none = [0u64; 1];
-    fill(
-        pool,
-        MAP,
-        lower,
-        from,
-        upper,
-        to,
-        most,
-        &mut none[0..0],
-        values,
-    )
+    fill(pool, MAP, lower, from, upper, to, most, &mut [], values)
 }

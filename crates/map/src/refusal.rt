@@ -3,9 +3,11 @@
 ghost use Rattle.std.specs.Prelude.{◌≡◌};
 ghost use Rattle.model.specs.Refusal.{refusal};
 ghost use Rattle.model.specs.MapCalls.{read_tests, change_tests};
+ghost use Rattle.map.specs.declared.refusal.Refusal.TheVariants.{NoRoom, Unsound};
 ghost use Rattle.map.specs.Answers.{number_of, early_number};
 
 use model::{KIND, OPEN};
+use tree::insert::Full;
 
 // The kinds of pool.
 pub const MAP: u64 = 0;
@@ -13,7 +15,7 @@ pub const MAP: u64 = 0;
 pub const SET: u64 = 1;
 
 // Why a call is refused; document 01's numbers, 1 to 9, in this order.
-#[derive(Clone, Copy)]
+#[derive(Clone, Copy, Debug, PartialEq, Eq)]
 pub enum Refusal {
     Unfit,
     OtherKind,
@@ -24,6 +26,24 @@ pub enum Refusal {
     NoRoom,
     Lengths,
     Unsound,
+}
+
+// A page that can't be is a pool found unsound.
+impl From<page::Unsound> for Refusal {
+    ghost from_gives = { λ _ r. r ≡ Unsound };
+
+    fn from(_why: page::Unsound) -> Refusal {
+        Refusal::Unsound
+    }
+}
+
+// No page is free for an entry.
+impl From<Full> for Refusal {
+    ghost from_gives = { λ _ r. r ≡ NoRoom };
+
+    fn from(_why: Full) -> Refusal {
+        Refusal::NoRoom
+    }
 }
 
 // Its number, for callers that are given numbers.
@@ -43,36 +63,26 @@ pub fn number(why: Refusal) -> u64
     }
 }
 
-// What the first tests say.
-#[derive(Clone, Copy)]
-pub enum Early {
-    Pass,
-    Refused(Refusal),
-}
-
-// Of a call that reads a pool of a kind.
-pub fn reading(pool: &[u64], kind: u64) -> Early
+// Past the first tests of a call that reads a pool of a kind.
+pub fn reading(pool: &[u64], kind: u64) -> Result<(), Refusal>
     ensures { early_number result ≡ refusal (read_tests kind pool.now) }
 {
     if !lend::head::fits(pool) {
-        return Early::Refused(Refusal::Unfit);
+        return Err(Refusal::Unfit);
     }
     if pool[KIND] != kind {
-        return Early::Refused(Refusal::OtherKind);
+        return Err(Refusal::OtherKind);
     }
-    Early::Pass
+    Ok(())
 }
 
-// Of a call that changes a pool of a kind.
-pub fn changing(pool: &[u64], kind: u64) -> Early
+// Past those of a call that changes a pool of a kind.
+pub fn changing(pool: &[u64], kind: u64) -> Result<(), Refusal>
     ensures { early_number result ≡ refusal (change_tests kind pool.now) }
 {
-    match reading(pool, kind) {
-        Early::Refused(n) => return Early::Refused(n),
-        Early::Pass => {}
-    }
+    reading(pool, kind)?;
     if pool[OPEN] == 1 {
-        return Early::Refused(Refusal::Opened);
+        return Err(Refusal::Opened);
     }
-    Early::Pass
+    Ok(())
 }

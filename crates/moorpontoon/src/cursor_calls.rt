@@ -5,8 +5,7 @@ ghost use Rattle.model.specs.CursorCalls.{cursor_open_lower, cursor_open_upper, 
 ghost use Rattle.moorpontoon.specs.Words.{nothing, amount, perhaps, stepped};
 ghost use Rattle.moorpontoon.specs.Exported.{Called};
 
-use crate::give;
-use crate::give::{OUT, SHORT};
+use crate::give::{OUT, SHORT, give};
 use cursor::{edit, opening};
 
 // The gap before the first entry that a lower bound lets in.
@@ -22,7 +21,7 @@ pub extern "C" fn mp_cursor_open_lower(
     if out.len() < OUT {
         return SHORT;
     }
-    give::opened(out, opening::lower(pool, kind, key))
+    give(out, opening::lower(pool, kind, key))
 }
 
 // The gap after the last entry that an upper bound lets in.
@@ -38,7 +37,7 @@ pub extern "C" fn mp_cursor_open_upper(
     if out.len() < OUT {
         return SHORT;
     }
-    give::opened(out, opening::upper(pool, kind, key))
+    give(out, opening::upper(pool, kind, key))
 }
 
 // The entry after the gap, and the gap goes over it.
@@ -49,7 +48,7 @@ pub extern "C" fn mp_cursor_next(pool: &mut [u64], out: &mut [u64]) -> u64
     if out.len() < OUT {
         return SHORT;
     }
-    give::step(out, cursor::next(pool))
+    give(out, cursor::next(pool))
 }
 
 // The entry before the gap, and the gap goes over it.
@@ -60,7 +59,7 @@ pub extern "C" fn mp_cursor_prev(pool: &mut [u64], out: &mut [u64]) -> u64
     if out.len() < OUT {
         return SHORT;
     }
-    give::step(out, cursor::prev(pool))
+    give(out, cursor::prev(pool))
 }
 
 // The entry after the gap.
@@ -71,7 +70,7 @@ pub extern "C" fn mp_cursor_peek_next(pool: &[u64], out: &mut [u64]) -> u64
     if out.len() < OUT {
         return SHORT;
     }
-    give::step(out, cursor::peek_next(pool))
+    give(out, cursor::peek_next(pool))
 }
 
 // The entry before the gap.
@@ -82,7 +81,7 @@ pub extern "C" fn mp_cursor_peek_prev(pool: &[u64], out: &mut [u64]) -> u64
     if out.len() < OUT {
         return SHORT;
     }
-    give::step(out, cursor::peek_prev(pool))
+    give(out, cursor::peek_prev(pool))
 }
 
 // Another value for the entry after the gap.
@@ -93,7 +92,7 @@ pub extern "C" fn mp_cursor_write_next(pool: &mut [u64], value: u64, out: &mut [
     if out.len() < OUT {
         return SHORT;
     }
-    give::wrote(out, cursor::write_next(pool, value))
+    give(out, cursor::write_next(pool, value))
 }
 
 // Another value for the entry before the gap.
@@ -104,7 +103,7 @@ pub extern "C" fn mp_cursor_write_prev(pool: &mut [u64], value: u64, out: &mut [
     if out.len() < OUT {
         return SHORT;
     }
-    give::wrote(out, cursor::write_prev(pool, value))
+    give(out, cursor::write_prev(pool, value))
 }
 
 // An entry after the gap, which stays before it.
@@ -120,7 +119,7 @@ pub extern "C" fn mp_cursor_insert_after(
     if out.len() < OUT {
         return SHORT;
     }
-    give::answer(out, edit::insert_after(pool, key, value))
+    give(out, edit::insert_after(pool, key, value))
 }
 
 // The entry after the gap goes.
@@ -131,7 +130,7 @@ pub extern "C" fn mp_cursor_remove_next(pool: &mut [u64], out: &mut [u64]) -> u6
     if out.len() < OUT {
         return SHORT;
     }
-    give::step(out, edit::remove_next(pool))
+    give(out, edit::remove_next(pool))
 }
 
 // The cursor is put away; the map takes changes again.
@@ -142,5 +141,5 @@ pub extern "C" fn mp_cursor_close(pool: &mut [u64], out: &mut [u64]) -> u64
     if out.len() < OUT {
         return SHORT;
     }
-    give::answer(out, cursor::close(pool))
+    give(out, cursor::close(pool))
 }

@@ -8,8 +8,7 @@ ghost use Rattle.model.specs.ListCalls.{key_column, value_column};
 ghost use Rattle.moorpontoon.specs.Words.{perhaps, found, seen};
 ghost use Rattle.moorpontoon.specs.Exported.{Called, ListsCalled};
 
-use crate::give;
-use crate::give::{OUT, SHORT};
+use crate::give::{OUT, SHORT, give};
 use map::list;
 
 // The key's entry, new or over the one that it had.
@@ -20,7 +19,7 @@ pub extern "C" fn mp_map_insert(pool: &mut [u64], key: u64, value: u64, out: &mu
     if out.len() < OUT {
         return SHORT;
     }
-    give::inserted(out, map::insert(pool, key, value))
+    give(out, map::insert(pool, key, value))
 }
 
 // The value of a key.
@@ -31,7 +30,7 @@ pub extern "C" fn mp_map_get(pool: &[u64], key: u64, out: &mut [u64]) -> u64
     if out.len() < OUT {
         return SHORT;
     }
-    give::got(out, map::get(pool, key))
+    give(out, map::get(pool, key))
 }
 
 // Whether the key is there.
@@ -42,7 +41,7 @@ pub extern "C" fn mp_map_contains(pool: &[u64], key: u64, out: &mut [u64]) -> u6
     if out.len() < OUT {
         return SHORT;
     }
-    give::contained(out, map::contains(pool, key))
+    give(out, map::contains(pool, key))
 }
 
 // Another value for a key that is there.
@@ -53,7 +52,7 @@ pub extern "C" fn mp_map_replace(pool: &mut [u64], key: u64, value: u64, out: &m
     if out.len() < OUT {
         return SHORT;
     }
-    give::replaced(out, map::replace(pool, key, value))
+    give(out, map::replace(pool, key, value))
 }
 
 // The key's entry goes.
@@ -64,7 +63,7 @@ pub extern "C" fn mp_map_remove(pool: &mut [u64], key: u64, out: &mut [u64]) -> 
     if out.len() < OUT {
         return SHORT;
     }
-    give::removed(out, map::remove(pool, key))
+    give(out, map::remove(pool, key))
 }
 
 // The entries between two bounds, in key order, as many as the shorter slice takes.
@@ -84,7 +83,7 @@ pub extern "C" fn mp_map_list_entries(
     if out.len() < OUT {
         return SHORT;
     }
-    give::listed(
+    give(
         out,
         list::entries(pool, lower, from, upper, to, keys, values),
     )
@@ -106,7 +105,7 @@ pub extern "C" fn mp_map_list_keys(
     if out.len() < OUT {
         return SHORT;
     }
-    give::listed(out, list::keys(pool, lower, from, upper, to, keys))
+    give(out, list::keys(pool, lower, from, upper, to, keys))
 }
 
 // Their values.
@@ -125,5 +124,5 @@ pub extern "C" fn mp_map_list_values(
     if out.len() < OUT {
         return SHORT;
     }
-    give::listed(out, list::values(pool, lower, from, upper, to, values))
+    give(out, list::values(pool, lower, from, upper, to, values))
 }

@@ -4,8 +4,7 @@ ghost use Rattle.model.specs.PoolCalls.{Makes, Clears, Counts, TellsEmpty, Copie
 ghost use Rattle.moorpontoon.specs.Words.{nothing, amount, whether};
 ghost use Rattle.moorpontoon.specs.Exported.{Called, ChecksOnly};
 
-use crate::give;
-use crate::give::{OUT, SHORT};
+use crate::give::{OUT, SHORT, give};
 use map::pool;
 
 // A new pool of a kind, in any words of a length that is allowed.
@@ -16,7 +15,7 @@ pub extern "C" fn mp_make(pool: &mut [u64], kind: u64, out: &mut [u64]) -> u64
     if out.len() < OUT {
         return SHORT;
     }
-    give::answer(out, pool::make(pool, kind))
+    give(out, pool::make(pool, kind))
 }
 
 // The same pool with no entry.
@@ -27,7 +26,7 @@ pub extern "C" fn mp_clear(pool: &mut [u64], out: &mut [u64]) -> u64
     if out.len() < OUT {
         return SHORT;
     }
-    give::answer(out, pool::clear(pool))
+    give(out, pool::clear(pool))
 }
 
 // The entries.
@@ -38,7 +37,7 @@ pub extern "C" fn mp_count(pool: &[u64], out: &mut [u64]) -> u64
     if out.len() < OUT {
         return SHORT;
     }
-    give::counted(out, pool::count(pool))
+    give(out, pool::count(pool))
 }
 
 // Whether there is none.
@@ -49,7 +48,7 @@ pub extern "C" fn mp_is_empty(pool: &[u64], out: &mut [u64]) -> u64
     if out.len() < OUT {
         return SHORT;
     }
-    give::empty(out, pool::is_empty(pool))
+    give(out, pool::is_empty(pool))
 }
 
 // The pool into other words, with the cursor closed.
@@ -60,7 +59,7 @@ pub extern "C" fn mp_copy(pool: &[u64], destination: &mut [u64], out: &mut [u64]
     if out.len() < OUT {
         return SHORT;
     }
-    give::answer(out, pool::copy(pool, destination))
+    give(out, pool::copy(pool, destination))
 }
 
 // Whether the words are a sound pool.
@@ -71,5 +70,5 @@ pub extern "C" fn mp_check(pool: &[u64], out: &mut [u64]) -> u64
     if out.len() < OUT {
         return SHORT;
     }
-    give::checked(out, pool::check(pool))
+    give(out, Ok(pool::check(pool)))
 }

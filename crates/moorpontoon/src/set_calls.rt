@@ -8,8 +8,7 @@ ghost use Rattle.model.specs.ListCalls.{key_column};
 ghost use Rattle.moorpontoon.specs.Words.{whether, found, seen};
 ghost use Rattle.moorpontoon.specs.Exported.{Called, ListsCalled};
 
-use crate::give;
-use crate::give::{OUT, SHORT};
+use crate::give::{OUT, SHORT, give};
 use map::set;
 
 // The key, if it is new.
@@ -20,7 +19,7 @@ pub extern "C" fn mp_set_insert(pool: &mut [u64], key: u64, out: &mut [u64]) -> 
     if out.len() < OUT {
         return SHORT;
     }
-    give::set_inserted(out, set::insert(pool, key))
+    give(out, set::insert(pool, key))
 }
 
 // The set's own key.
@@ -31,7 +30,7 @@ pub extern "C" fn mp_set_get(pool: &[u64], key: u64, out: &mut [u64]) -> u64
     if out.len() < OUT {
         return SHORT;
     }
-    give::set_got(out, set::get(pool, key))
+    give(out, set::get(pool, key))
 }
 
 // Whether the key is there.
@@ -42,7 +41,7 @@ pub extern "C" fn mp_set_contains(pool: &[u64], key: u64, out: &mut [u64]) -> u6
     if out.len() < OUT {
         return SHORT;
     }
-    give::contained(out, set::contains(pool, key))
+    give(out, set::contains(pool, key))
 }
 
 // The key goes.
@@ -53,7 +52,7 @@ pub extern "C" fn mp_set_remove(pool: &mut [u64], key: u64, out: &mut [u64]) -> 
     if out.len() < OUT {
         return SHORT;
     }
-    give::set_removed(out, set::remove(pool, key))
+    give(out, set::remove(pool, key))
 }
 
 // The keys between two bounds, in order, as many as the slice takes.
@@ -72,5 +71,5 @@ pub extern "C" fn mp_set_list(
     if out.len() < OUT {
         return SHORT;
     }
-    give::listed(out, set::list(pool, lower, from, upper, to, keys))
+    give(out, set::list(pool, lower, from, upper, to, keys))
 }

@@ -16,7 +16,7 @@ use Rattle.model.specs.Basics.{ins, del, tab, every}
 use Rattle.model.specs.Tree.{Entry, Node, entry}
 use Rattle.model.specs.Page.{count_of, height_of, entry_in, child_in, entries_of, children_of}
 use Rattle.model.specs.Standing.{node_of, Holds}
-use Rattle.page.specs.declared.Change.TheVariants.{Done, Unsound}
+use Rattle.std.specs.Prelude.{Ok}
 use Rattle.page.specs.Runs.{part, Changed}
 use Rattle.page.specs.Node.{alone, more, less, instead}
 use Rattle.page.specs.Page.{Long, said, firsts, room_at, holds_at, full_at, did, Changes}
@@ -62,6 +62,9 @@ pub full_at_lem : (most : ℕ) (page : List ℕ) (slot : ℕ) → count_of page 
 unfolding full_at
 full_at_lem most page slot a b = simp (eq-eqb, le-leb)
 
+-- what the tests say, where they hold
+pub ruleset told = (room-facts, holds-facts, full-facts)
+
 -- behind the last entry, and behind the last child
 pub behind-facts : (n slot place : ℕ) → (eqb slot n && eqb place (n + 1)) ≡ true → (slot ≡ n) × (place ≡ suc n)
 behind-facts n slot place e =
@@ -78,13 +81,10 @@ pub last-test : (t : Bool) → t ≡ every (t ∷ [])
 last-test true = refl
 last-test false = refl
 
--- ---- what a function that tests its page answers
+-- ---- what a function that tests its page answers, where the test holds
 
-pub changes-done : {most : ℕ} {ok : Bool} {x : Node ℕ} {page page' : List ℕ} → ok ≡ true → Holds most (height_of page) x page' → Changes most ok x page page' Done
+pub changes-done : {most : ℕ} {ok : Bool} {x : Node ℕ} {page page' : List ℕ} → ok ≡ true → Holds most (height_of page) x page' → Changes most ok x page page' (Ok tt)
 changes-done t w = record { answer = sym (ap did t); kept = contrary t; holds = λ t'. w }
-
-pub changes-none : {most : ℕ} {ok : Bool} {x : Node ℕ} {page : List ℕ} → ok ≡ false → Changes most ok x page page Unsound
-changes-none f = record { answer = sym (ap did f); kept = λ f'. refl; holds = λ t. contrary t f }
 
 -- ---- a page and what it holds
 

@@ -1,7 +1,6 @@
 -- A full page with one entry more: what stands at each place of it, and what is left when its first n entries are kept.
 -- Assumes nothing.
-use mathlib.Core.Path.{◌≡◌, refl, sym, ap, ap₂, ◌∙◌}
-use mathlib.Core.Bool.{Bool, true, false}
+use mathlib.Core.Path.{◌≡◌, sym, ap, ap₂, ◌∙◌}
 use mathlib.Core.Logic.{◌≢◌}
 use mathlib.Core.List.{List, ◌∷◌}
 use Prim.Native.Nat.{ℕ, suc, ◌+◌, ◌*◌, ◌-◌, ◌≤◌, ◌<◌}
@@ -9,14 +8,12 @@ use native.Mathlib.Omega.{arith}
 use lib.ListN.{length, take, drop, get_or, set}
 use lib.Seq.{length-take-le, take-append-le, take-take, get_or-set_same, get_or-set_other}
 use Rattle.model.specs.Basics.{ins, tab}
-use Rattle.model.specs.Tree.{Entry, Node, no_entry, entry}
+use Rattle.model.specs.Tree.{Entry, entry}
 use Rattle.model.specs.Page.{count_of, height_of, entry_in, child_in, entries_of, children_of}
 use Rattle.model.specs.Standing.{Holds}
 use Rattle.model.specs.Insert.{cut_left}
-use Rattle.page.specs.declared.Parting.TheVariants.{Up, Unsound}
 use Rattle.page.specs.Node.{wider}
-use Rattle.page.specs.Page.{Long, said, firsts, parted, Splits}
-use Rattle.model.proofs.Cases.{contrary}
+use Rattle.page.specs.Page.{Long, said, firsts}
 use Rattle.model.proofs.Basics.{length-tab, get_or-tab, tab-ext, ins-before, take-tab, ins-here, ins-after}
 use Rattle.page.proofs.Running.{take-ins}
 
@@ -79,21 +76,3 @@ module _ (most n slot : ℕ) (e : Entry) (child : ℕ) (page : List ℕ) (full :
             (tab-ext (suc n) (child_in most (set page 0 n)) (child_in most page) (λ i. kept (2 + 2 * most + i) (omega arith))
             ∙ first_below (suc n) (suc (count_of page)) (child_in most page) (suc slot) child (omega arith) (omega arith));
       }
-
--- ---- the two answers of `split`
-
-module _ {most n : ℕ} {ok : Bool} {x : Node ℕ} {page : List ℕ} where
-  pub split_done : {page' : List ℕ} {k v : ℕ} → ok ≡ true → entry k v ≡ get_or x.own n no_entry → Holds most (height_of page) (cut_left n x) page'
-      → Splits most n ok x page page' (Up k v)
-  split_done full up h = record {
-    answer = rw full (ap (parted true) up);
-    kept = contrary full;
-    holds = λ _. h;
-  }
-
-  pub split-refused : ok ≡ false → Splits most n ok x page page Unsound
-  split-refused not_full = record {
-    answer = rw not_full;
-    kept = λ _. refl;
-    holds = λ full. contrary full not_full;
-  }

@@ -10,10 +10,8 @@ pub fn push_in(s: &mut [u64], at: usize, v: u64)
     requires { at < length s.old }
     ensures { s.new ≡ ins at v (take (length s.old - 1) s.old) }
 {
-    let mut i = s.len() - 1;
-    while 0 < i {
+    for i in (1..s.len()).rev() {
         s[i] = s[i - ((at < i) as usize)];
-        i -= 1;
     }
     s[at] = v;
 }
@@ -23,10 +21,8 @@ pub fn pull_out(s: &mut [u64], at: usize)
     requires { at < length s.old }
     ensures { s.new ≡ del at s.old ++ drop (length s.old - 1) s.old }
 {
-    let mut i: usize = 0;
-    while i + 1 < s.len() {
+    for i in 0..s.len() - 1 {
         s[i] = s[i + ((at <= i) as usize)];
-        i += 1;
     }
 }
 
@@ -38,28 +34,23 @@ pub fn scan(s: &[u64], n: usize, key: u64, past: bool) -> usize
     ensures { result ≡ leading (up_to key past) (take n s.now) }
 {
     let mut mask: u64 = 0;
-    let mut i: usize = 0;
-    while i < s.len() {
-        let stands = (s[i] < key) | (past & (s[i] == key));
-        mask = mask | ((stands as u64) << i);
-        i += 1;
+    for (i, word) in s.iter().enumerate() {
+        let stands = (*word < key) | (past & (*word == key));
+        mask |= (stands as u64) << i;
     }
-    let slot = u64::trailing_zeros(!mask) as usize;
-    if n < slot { n } else { slot }
+    n.min(mask.trailing_ones() as usize)
 }
 
 // The same, up to `key`, step by step: faster where the way is that of the call before, as from next to next.
 pub fn walk(s: &[u64], key: u64) -> usize
     ensures { result ≡ leading (up_to key true) s.now }
 {
-    let mut i: usize = 0;
-    while i < s.len() {
-        if key < s[i] {
+    for (i, word) in s.iter().enumerate() {
+        if key < *word {
             return i;
         }
-        i += 1;
     }
-    i
+    s.len()
 }
 
 // One more in the run of `n` words from `base` on.

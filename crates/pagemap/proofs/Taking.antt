@@ -12,7 +12,7 @@ use borrow.Author.Tests.{eq-eqb, ne_eqb}
 use Rattle.model.specs.Basics.{same}
 use Rattle.model.specs.Sums.{sum_to}
 use Rattle.model.specs.PageMap.{bit_at, free_from, free_pages}
-use Rattle.pagemap.specs.declared.Lowest.TheVariants.{Page, None}
+use Rattle.std.specs.declared.option.Option.TheVariants.{Some, None}
 use Rattle.pagemap.specs.Bits.{set_bit, clear_bit}
 use Rattle.pagemap.specs.Lowest.{free_in, lowest_of}
 use Rattle.model.proofs.Cases.{same_self, never}
@@ -21,7 +21,7 @@ use Rattle.pagemap.proofs.Map.{set-bits, clear-bits}
 
 -- ---- the first of some pages
 
-first-page : (l : List ℕ) (p : ℕ) → lowest_of l ≡ Page p → (0 < length l) × (get_or l 0 0 ≡ p)
+first-page : (l : List ℕ) (p : ℕ) → lowest_of l ≡ Some p → (0 < length l) × (get_or l 0 0 ≡ p)
 first-page [] p e = never (cc)
 first-page (x ∷ l) p e = (omega arith, cc)
 
@@ -40,7 +40,7 @@ from-skip taken (suc n) p m h =
 
 module _ (words : List ℕ) (P : ℕ) where
   -- page p is free, and none below it
-  pub lowest-page : (p : ℕ) → p < P → bit_at words p ≡ 0 → ((q : ℕ) → q < p → bit_at words q ≡ 1) → lowest_of (free_in words P) ≡ Page p
+  pub lowest-page : (p : ℕ) → p < P → bit_at words p ≡ 0 → ((q : ℕ) → q < p → bit_at words q ≡ 1) → lowest_of (free_in words P) ≡ Some p
   unfolding free_pages free_from
   lowest-page p h z below =
       let e : P ≡ p + suc (P - suc p) = omega arith in
@@ -52,7 +52,7 @@ module _ (words : List ℕ) (P : ℕ) where
   lowest-none below = rw add-zero at (ap lowest_of (from-skip (bit_at words) P 0 0 (λ q l. below q (omega arith))))
 
   -- a page that is answered is one of P, and free; where none is answered, none is free
-  pub lowest-is : (p : ℕ) → lowest_of (free_in words P) ≡ Page p → (p < P) × (bit_at words p ≡ 0)
+  pub lowest-is : (p : ℕ) → lowest_of (free_in words P) ≡ Some p → (p < P) × (bit_at words p ≡ 0)
   lowest-is p e =
       let first = first-page (free_in words P) p e in
       rw first.1 at (free-is (bit_at words) P 0 first.0)
@@ -64,7 +64,7 @@ module _ (words : List ℕ) (P : ℕ) where
 
 module _ (words : List ℕ) (f : ℕ → ℕ) where
   -- taking the lowest free page turns bits that are f into f and that page
-  pub take-counts : (P p : ℕ) → P ≤ 64 * length words → ((q : ℕ) → bit_at words q ≡ f q) → lowest_of (free_in words P) ≡ Page p
+  pub take-counts : (P p : ℕ) → P ≤ 64 * length words → ((q : ℕ) → bit_at words q ≡ f q) → lowest_of (free_in words P) ≡ Some p
       → (p < P) × (f p ≡ 0) × ((q : ℕ) → bit_at (set_bit words p) q ≡ f q + same q p)
   take-counts P p long bits e =
       let free = lowest-is words P p e in
@@ -77,7 +77,7 @@ module _ (words : List ℕ) (f : ℕ → ℕ) where
 -- ---- one after the other
 
 -- once the lowest is taken the rest is left
-pub take_next : (words : List ℕ) (P p : ℕ) → P ≤ 64 * length words → lowest_of (free_in words P) ≡ Page p → free_in words P ≡ p ∷ free_in (set_bit words p) P
+pub take_next : (words : List ℕ) (P p : ℕ) → P ≤ 64 * length words → lowest_of (free_in words P) ≡ Some p → free_in words P ≡ p ∷ free_in (set_bit words p) P
 unfolding sum_to
 take_next words P p long e =
     let first = first-page (free_in words P) p e in
@@ -90,7 +90,7 @@ take_next words P p long e =
 
 -- once the first k of the pages that are free are taken, the lowest is the next of them
 pub lowest-kth : (words : List ℕ) (taken : ℕ → ℕ) (P k : ℕ) → ((q : ℕ) → bit_at words q ≡ taken q + sum_to (λ i. same q (get_or (free_pages taken P) i 0)) k)
-    → k < length (free_pages taken P) → lowest_of (free_in words P) ≡ Page (get_or (free_pages taken P) k 0)
+    → k < length (free_pages taken P) → lowest_of (free_in words P) ≡ Some (get_or (free_pages taken P) k 0)
 lowest-kth words taken P k bits h =
     ap lowest_of
     (free-same (bit_at words) (λ q. taken q + sum_to (λ i. same q (get_or (free_pages taken P) i 0)) k) P (λ q m. bits q)

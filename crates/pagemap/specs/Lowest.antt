@@ -1,9 +1,7 @@
 -- Document 01, "the lowest-numbered free page": the first of the free pages, and the map once it is taken.
 -- Assumes nothing: these are definitions.
-use Rattle.std.specs.Prelude.{Bool, List, [], ◌∷◌, ℕ, leb, length}
+use Rattle.std.specs.Prelude.{Bool, List, [], ◌∷◌, ℕ, leb, length, Option, Some, None}
 use Rattle.model.specs.PageMap.{bit_at, free_pages}
-use Rattle.pagemap.specs.declared.Lowest.{Lowest}
-use Rattle.pagemap.specs.declared.Lowest.TheVariants.{Page, None}
 use Rattle.pagemap.specs.Bits.{set_bit}
 
 -- the free ones of P pages, by the map's words
@@ -11,13 +9,13 @@ abbrev pub free_in : List ℕ → ℕ → List ℕ
 free_in words P = free_pages (bit_at words) P
 
 -- what is answered where these pages are free, lowest first
-abbrev pub lowest_of : List ℕ → Lowest
+abbrev pub lowest_of : List ℕ → Option ℕ
 lowest_of [] = None
-lowest_of (p ∷ ps) = Page p
+lowest_of (p ∷ ps) = Some p
 
 -- the map once that page is taken
-abbrev pub took : List ℕ → Lowest → List ℕ
-took words (Page p) = set_bit words p
+abbrev pub took : List ℕ → Option ℕ → List ℕ
+took words (Some p) = set_bit words p
 took words None = words
 
 -- at least k of P pages are free

@@ -8,23 +8,13 @@ ghost use Rattle.model.specs.PageMap.{bit, bit_at};
 ghost use Rattle.pagemap.specs.Bits.{count_bits, set_bit, clear_bit};
 ghost use Rattle.pagemap.specs.Lowest.{free_in, lowest_of, took, enough, most_words};
 
-// The lowest free page, where there is one.
-#[derive(Clone, Copy)]
-pub enum Lowest {
-    Page(usize),
-    None,
-}
-
 // Whether the page's bit is 1. A page past the map's words is not taken.
 pub fn is_taken(map: &[u64], page: usize) -> bool
     ensures { result ≡ eqb (bit_at map.now page) 1 }
 {
-    let w = page / 64;
-    if w < map.len() {
-        let b = page % 64;
-        (map[w] >> b) % 2 == 1
-    } else {
-        false
+    match map.get(page / 64) {
+        Some(word) => (*word >> (page % 64)) % 2 == 1,
+        None => false,
     }
 }
 
@@ -33,9 +23,9 @@ pub fn take(map: &mut [u64], page: usize)
     ensures { map.new ≡ set_bit map.old page }
 {
     let w = page / 64;
+    // No `get_mut`: the proof does not close, since of a slice nothing is known of the words once that borrow is over.
     if w < map.len() {
-        let b = page % 64;
-        map[w] = map[w] | 1 << b;
+        map[w] |= 1 << (page % 64);
     }
 }
 
@@ -44,45 +34,35 @@ pub fn free(map: &mut [u64], page: usize)
     ensures { map.new ≡ clear_bit map.old page }
 {
     let w = page / 64;
+    // No `get_mut`, as in `take`.
     if w < map.len() {
-        let b = page % 64;
-        map[w] = map[w] & !(1 << b);
+        map[w] &= !(1 << (page % 64));
     }
 }
 
-// The lowest free page: the first word that is not full has it at its trailing ones.
-pub fn lowest_free(map: &[u64], pages: usize) -> Lowest
+// The lowest free page: the first word that is not full has it past its trailing ones.
+pub fn lowest_free(map: &[u64], pages: usize) -> Option<usize>
     requires { (length map.now ≤ most_words) × (pages ≤ 64 * length map.now) }
     ensures { result ≡ lowest_of (free_in map.now pages) }
 {
-    let mut w: usize = 0;
-    while w < map.len() {
-        let b = u64::trailing_zeros(!map[w]) as usize;
+    for (w, word) in map.iter().enumerate() {
+        let b = (!word).trailing_zeros() as usize;
         if b < 64 {
             let p = 64 * w + b;
-            if p < pages {
-                return Lowest::Page(p);
-            }
-            return Lowest::None;
+            return if p < pages { Some(p) } else { None };
         }
-        w += 1;
     }
-    Lowest::None
+    None
 }
 
 // Takes the lowest free page, and says which it was.
-pub fn take_lowest(map: &mut [u64], pages: usize) -> Lowest
+pub fn take_lowest(map: &mut [u64], pages: usize) -> Option<usize>
     requires { (length map.old ≤ most_words) × (pages ≤ 64 * length map.old) }
     ensures { (result ≡ lowest_of (free_in map.old pages)) × (map.new ≡ took map.old result) }
 {
-    let found = lowest_free(map, pages);
-    match found {
-        Lowest::Page(p) => {
-            take(map, p);
-            Lowest::Page(p)
-        }
-        Lowest::None => Lowest::None,
-    }
+    let page = lowest_free(map, pages)?;
+    take(map, page);
+    Some(page)
 }
 
 // How many pages are taken, by the machine's count of ones.
@@ -90,11 +70,9 @@ pub fn taken(map: &[u64]) -> usize
     requires { length map.now ≤ most_words }
     ensures { result ≡ count_bits map.now }
 {
-    let mut n: usize = 0;
-    let mut w: usize = 0;
-    while w < map.len() {
-        n += u64::count_ones(map[w]) as usize;
-        w += 1;
+    let mut n = 0;
+    for word in map {
+        n += word.count_ones() as usize;
     }
     n
 }
@@ -104,14 +82,12 @@ pub fn has_free(map: &[u64], pages: usize, k: usize) -> bool
     requires { (length map.now ≤ most_words) × (pages ≤ 64 * length map.now) }
     ensures { result ≡ enough map.now pages k }
 {
-    let mut free: usize = 0;
-    let mut w: usize = 0;
-    while 64 * w < pages {
+    let mut free = 0;
+    for w in 0..pages.div_ceil(64) {
         if k <= free {
             return true;
         }
         free += zeros(map[w], pages - 64 * w);
-        w += 1;
     }
     k <= free
 }
@@ -121,11 +97,11 @@ pub fn has_free(map: &[u64], pages: usize, k: usize) -> bool
 fn zeros(word: u64, n: usize) -> usize
     ensures { result + sum_to (bit word) (min n 64) ≡ min n 64 }
 {
-    if word == 18446744073709551615 {
+    if word == u64::MAX {
         0
     } else if n < 64 {
-        n - u64::count_ones(word & ((1 << n) - 1)) as usize
+        n - (word & ((1 << n) - 1)).count_ones() as usize
     } else {
-        64 - u64::count_ones(word) as usize
+        64 - word.count_ones() as usize
     }
 }

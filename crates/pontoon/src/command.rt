@@ -1,239 +1,230 @@
 // A command by what it asks: its words taken apart once, its numbers read. A tick is a key and a place is a value.
-// Words that are no command come to one too, which tells what is wrong with which of them.
-use crate::usage;
-use crate::usage::Shape;
-use crate::words::{count, is, is_number, number_at, word};
-use map::refusal::{MAP, SET};
-use model::MOST_PAGES;
+// Words that are no command come to what is wrong with which of them.
+use crate::kind::Kind;
+use crate::size::Size;
+use crate::usage::Verb;
+use crate::words::{Words, number_of};
+use page::Entry;
+use std::error::Error;
+use std::fmt;
+use std::ops::Bound;
 
-// The kinds of a bound, as the calls take them; and what is none.
-pub const INCLUDED: u64 = 0;
-
-pub const EXCLUDED: u64 = 1;
-
-pub const UNBOUNDED: u64 = 2;
-
-const NO_BOUND: u64 = 3;
-
-// Besides the lines of the usage: no words at all; words that are no command; insert into a set; open at an upper
-// bound.
-pub const HELP: usize = 24;
-
-pub const BAD: usize = 25;
-
-pub const INSERT_TICK: usize = 26;
-
-pub const OPEN_UPPER: usize = 27;
-
-// The verb, which is the number of the command's line, and two numbers: a tick and a place, two ticks, a tick and a
-// number of steps, pages and a kind. With one or two bounds, their kinds.
+// What the words ask, of the pool in the file that word 1 names where they name one.
 #[derive(Clone, Copy)]
-pub struct Command {
-    pub verb: usize,
-    pub a: u64,
-    pub b: u64,
-    pub lower: u64,
-    pub upper: u64,
+pub enum Command<'a> {
+    // Of no words at all.
+    Help,
+    Sample,
+    Make { size: Size, kind: Kind },
+    // To a file of a name.
+    Copy(&'a [u8]),
+    Clear,
+    Check,
+    Show,
+    Stats,
+    // Into a set without a place.
+    Insert { tick: u64, place: Option<u64> },
+    // Of a tick, which is the entry's key.
+    Get(u64),
+    Replace(Entry),
+    Remove(u64),
+    List { from: Bound<u64>, to: Bound<u64> },
+    Open(Gap),
+    Next,
+    Prev,
+    PeekNext,
+    PeekPrev,
+    // A place, which is the entry's value.
+    WriteNext(u64),
+    WritePrev(u64),
+    InsertAfter(Entry),
+    RemoveNext,
+    Close,
+    Scrub { tick: u64, steps: u64 },
 }
 
-// What is wrong with a word, by the lines of `complain`.
-pub const NOT_KNOWN: u64 = 0;
+// Where a cursor is opened: at a lower bound, unbounded at the start, or at an upper bound, unbounded at the end.
+#[derive(Clone, Copy)]
+pub enum Gap {
+    Lower(Bound<u64>),
+    Upper(Bound<u64>),
+}
 
-const TOO_FEW: u64 = 1;
-
-const TOO_MANY: u64 = 2;
-
-const NOT_A_NUMBER: u64 = 3;
-
-const NOT_PAGES: u64 = 4;
-
-const NOT_A_KIND: u64 = 5;
-
-const NOT_WHERE: u64 = 6;
-
-const NOT_A_BOUND: u64 = 7;
-
-fn plain(verb: usize, a: u64, b: u64) -> Command {
-    Command {
-        verb,
-        a,
-        b,
-        lower: UNBOUNDED,
-        upper: UNBOUNDED,
+// The kind of a bound by the library's numbers, and its tick.
+pub fn numbers(bound: Bound<u64>) -> (u64, u64) {
+    match bound {
+        Bound::Included(tick) => (0, tick),
+        Bound::Excluded(tick) => (1, tick),
+        Bound::Unbounded => (2, 0),
     }
 }
 
-// What is wrong, and with which word.
-fn bad(reason: u64, i: u64) -> Command {
-    plain(BAD, reason, i)
+// What is wrong with a word.
+#[derive(Clone, Copy, Debug, PartialEq, Eq)]
+pub enum Wrong {
+    NotKnown,
+    TooFew,
+    TooMany,
+    NotANumber,
+    NotPages,
+    NotAKind,
+    NotWhere,
+    NotABound,
+}
+
+impl fmt::Display for Wrong {
+    fn fmt<W: fmt::Write>(&self, f: &mut fmt::Formatter<W>) -> fmt::Result {
+        f.write_str(match self {
+            Wrong::NotKnown => "is no command; pontoon alone lists them",
+            Wrong::TooFew => "has too few words after it",
+            Wrong::TooMany => "has too many words after it",
+            Wrong::NotANumber => "is no number from 0 to 18446744073709551615",
+            Wrong::NotPages => "is no number of pages: from 1 to 4096",
+            Wrong::NotAKind => "is neither map nor set",
+            Wrong::NotWhere => {
+                "does not say where: start, end, or lower|upper included|excluded TICK"
+            }
+            Wrong::NotABound => "is neither included nor excluded",
+        })
+    }
+}
+
+impl Error for Wrong {}
+
+// A word with which something is wrong.
+#[derive(Clone, Copy, Debug, PartialEq, Eq)]
+pub struct BadWord<'a> {
+    pub word: &'a [u8],
+    pub wrong: Wrong,
+}
+
+// ---- words
+
+fn bad(words: Words<'_>, i: usize, wrong: Wrong) -> BadWord<'_> {
+    BadWord {
+        word: words.word(i),
+        wrong,
+    }
+}
+
+// The number that word `i` has to be.
+fn number(words: Words<'_>, i: usize) -> Result<u64, BadWord<'_>> {
+    number_of(words.word(i)).ok_or(bad(words, i, Wrong::NotANumber))
+}
+
+// The number that word `i` has to be, where it is given.
+fn number_if_any(words: Words<'_>, i: usize) -> Result<Option<u64>, BadWord<'_>> {
+    if words.get(i).is_none() {
+        return Ok(None);
+    }
+    Ok(Some(number(words, i)?))
+}
+
+// The tick of a list's bound: none for a dash or no word.
+fn end(words: Words<'_>, i: usize) -> Result<Option<u64>, BadWord<'_>> {
+    if words.get(i) == Some(b"-") {
+        return Ok(None);
+    }
+    number_if_any(words, i)
+}
+
+// The tick and the place that words 2 and 3 have to be.
+fn entry(words: Words<'_>) -> Result<Entry, BadWord<'_>> {
+    Ok(Entry {
+        key: number(words, 2)?,
+        value: number(words, 3)?,
+    })
 }
 
 // ---- the commands that have words besides numbers
 
-// Which of two a word is: 0 or 1, and 2 where it is neither.
-fn choice(word: &[u8], first: &[u8], second: &[u8]) -> u64 {
-    if is(word, first) {
-        return 0;
-    }
-    if is(word, second) {
-        return 1;
-    }
-    2
+fn make(words: Words<'_>) -> Result<Command<'_>, BadWord<'_>> {
+    let size = Size::of(number(words, 2)?).ok_or(bad(words, 2, Wrong::NotPages))?;
+    let kind = match words.get(3) {
+        None | Some(b"map") => Kind::Map,
+        Some(b"set") => Kind::Set,
+        Some(_) => return Err(bad(words, 3, Wrong::NotAKind)),
+    };
+    Ok(Command::Make { size, kind })
 }
 
-// The kind that word 3 names.
-fn make_of(line: &[u8], pages: u64) -> Command {
-    match choice(word(line, 3), b"map", b"set") {
-        0 => plain(usage::MAKE, pages, MAP),
-        1 => plain(usage::MAKE, pages, SET),
-        _ => bad(NOT_A_KIND, 3),
-    }
-}
-
-fn make(line: &[u8], words: usize, pages: u64) -> Command {
-    if pages == 0 {
-        return bad(NOT_PAGES, 2);
-    }
-    if (MOST_PAGES as u64) < pages {
-        return bad(NOT_PAGES, 2);
-    }
-    if words == 3 {
-        return plain(usage::MAKE, pages, MAP);
-    }
-    make_of(line, pages)
-}
-
-fn insert(words: usize, tick: u64, place: u64) -> Command {
-    if words == 3 {
-        return plain(INSERT_TICK, tick, 0);
-    }
-    plain(usage::INSERT, tick, place)
-}
-
-// The kind of a list's bound by word `i`: the one given for a tick, or none for a dash or no word.
-fn end_of(line: &[u8], words: usize, i: usize, kind: u64) -> u64 {
-    if words <= i {
-        return UNBOUNDED;
-    }
-    if is(word(line, i), b"-") {
-        return UNBOUNDED;
-    }
-    if is_number(line, i) {
-        return kind;
-    }
-    NO_BOUND
-}
-
-fn list(line: &[u8], words: usize, from: u64, to: u64) -> Command {
-    let lower = end_of(line, words, 2, INCLUDED);
-    let upper = end_of(line, words, 3, EXCLUDED);
-    if lower == NO_BOUND {
-        return bad(NOT_A_NUMBER, 2);
-    }
-    if upper == NO_BOUND {
-        return bad(NOT_A_NUMBER, 3);
-    }
-    Command {
-        verb: usage::LIST,
-        a: from,
-        b: to,
-        lower,
-        upper,
+// The bound of a tick, by the last two of five words.
+fn bound(words: Words<'_>) -> Result<Bound<u64>, BadWord<'_>> {
+    match words.word(3) {
+        b"included" => Ok(Bound::Included(number(words, 4)?)),
+        b"excluded" => Ok(Bound::Excluded(number(words, 4)?)),
+        _ => Err(bad(words, 3, Wrong::NotABound)),
     }
 }
 
-// Open at the bound of a tick, of a kind.
-fn open_at(line: &[u8], kind: u64, tick: u64) -> Command {
-    let mut verb = usage::OPEN;
-    match choice(word(line, 2), b"lower", b"upper") {
-        0 => {}
-        1 => verb = OPEN_UPPER,
-        _ => return bad(NOT_WHERE, 2),
-    }
-    Command {
-        verb,
-        a: tick,
-        b: 0,
-        lower: kind,
-        upper: kind,
-    }
-}
-
-fn open_by(line: &[u8]) -> Command {
-    let kind = choice(word(line, 3), b"included", b"excluded");
-    if kind == 2 {
-        return bad(NOT_A_BOUND, 3);
-    }
-    if !is_number(line, 4) {
-        return bad(NOT_A_NUMBER, 4);
-    }
-    open_at(line, kind, number_at(line, 4))
-}
-
-fn open(line: &[u8], words: usize) -> Command {
-    if words == 5 {
-        return open_by(line);
-    }
-    if words == 4 {
-        return bad(TOO_FEW, 0);
-    }
-    match choice(word(line, 2), b"start", b"end") {
-        0 => plain(usage::OPEN, 0, 0),
-        1 => plain(OPEN_UPPER, 0, 0),
-        _ => bad(NOT_WHERE, 2),
+fn open(words: Words<'_>) -> Result<Gap, BadWord<'_>> {
+    let at = match words.count() {
+        3 => None,
+        5 => Some(bound(words)?),
+        _ => return Err(bad(words, 0, Wrong::TooFew)),
+    };
+    match (words.word(2), at) {
+        (b"start", None) => Ok(Gap::Lower(Bound::Unbounded)),
+        (b"end", None) => Ok(Gap::Upper(Bound::Unbounded)),
+        (b"lower", Some(at)) => Ok(Gap::Lower(at)),
+        (b"upper", Some(at)) => Ok(Gap::Upper(at)),
+        _ => Err(bad(words, 2, Wrong::NotWhere)),
     }
 }
 
 // ---- all
 
-// By the verb, where the numbers are numbers.
-fn told(verb: usize, line: &[u8], words: usize) -> Command {
-    let a = number_at(line, 2);
-    let b = number_at(line, 3);
-    match verb {
-        usage::MAKE => make(line, words, a),
-        usage::INSERT => insert(words, a, b),
-        usage::LIST => list(line, words, a, b),
-        usage::OPEN => open(line, words),
-        usage::UNKNOWN => bad(NOT_KNOWN, 0),
-        _ => plain(verb, a, b),
-    }
+// By the verb, where there are as many words as go with it.
+fn told(verb: Verb, words: Words<'_>) -> Result<Command<'_>, BadWord<'_>> {
+    Ok(match verb {
+        Verb::Sample => Command::Sample,
+        Verb::Make => make(words)?,
+        Verb::Copy => Command::Copy(words.word(2)),
+        Verb::Clear => Command::Clear,
+        Verb::Check => Command::Check,
+        Verb::Show => Command::Show,
+        Verb::Stats => Command::Stats,
+        Verb::Insert => Command::Insert {
+            tick: number(words, 2)?,
+            place: number_if_any(words, 3)?,
+        },
+        Verb::Get => Command::Get(number(words, 2)?),
+        Verb::Replace => Command::Replace(entry(words)?),
+        Verb::Remove => Command::Remove(number(words, 2)?),
+        Verb::List => Command::List {
+            from: end(words, 2)?.map_or(Bound::Unbounded, Bound::Included),
+            to: end(words, 3)?.map_or(Bound::Unbounded, Bound::Excluded),
+        },
+        Verb::Open => Command::Open(open(words)?),
+        Verb::Next => Command::Next,
+        Verb::Prev => Command::Prev,
+        Verb::PeekNext => Command::PeekNext,
+        Verb::PeekPrev => Command::PeekPrev,
+        Verb::WriteNext => Command::WriteNext(number(words, 2)?),
+        Verb::WritePrev => Command::WritePrev(number(words, 2)?),
+        Verb::InsertAfter => Command::InsertAfter(entry(words)?),
+        Verb::RemoveNext => Command::RemoveNext,
+        Verb::Close => Command::Close,
+        Verb::Scrub => Command::Scrub {
+            tick: number(words, 2)?,
+            steps: number(words, 3)?,
+        },
+    })
 }
 
-// Whether word `i` is a number, where it is given and has to be one.
-fn is_read(line: &[u8], words: usize, numbers: usize, i: usize) -> bool {
-    if words <= i {
-        return true;
+pub fn parse(words: Words<'_>) -> Result<Command<'_>, BadWord<'_>> {
+    let Some(name) = words.get(0) else {
+        return Ok(Command::Help);
+    };
+    let Some(verb) = Verb::of(name) else {
+        return Err(bad(words, 0, Wrong::NotKnown));
+    };
+    let wanted = verb.words();
+    if words.count() < *wanted.start() {
+        return Err(bad(words, 0, Wrong::TooFew));
     }
-    if numbers.wrapping_add(2) <= i {
-        return true;
+    if words.count() > *wanted.end() {
+        return Err(bad(words, 0, Wrong::TooMany));
     }
-    is_number(line, i)
-}
-
-// By the verb, where the words have its shape.
-fn shaped(verb: usize, shape: Shape, line: &[u8], words: usize) -> Command {
-    if words < shape.0 {
-        return bad(TOO_FEW, 0);
-    }
-    if shape.1 < words {
-        return bad(TOO_MANY, 0);
-    }
-    if !is_read(line, words, shape.2, 2) {
-        return bad(NOT_A_NUMBER, 2);
-    }
-    if !is_read(line, words, shape.2, 3) {
-        return bad(NOT_A_NUMBER, 3);
-    }
-    told(verb, line, words)
-}
-
-// A line of words, by the lines of the usage.
-pub fn parse(usage: &[u8], line: &[u8]) -> Command {
-    let words = count(line);
-    if words == 0 {
-        return plain(HELP, 0, 0);
-    }
-    let verb = usage::row(usage, word(line, 0));
-    shaped(verb, usage::shape_of(verb), line, words)
+    told(verb, words)
 }

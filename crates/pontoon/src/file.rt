@@ -2,10 +2,9 @@
 // the file is replaced before the command says so. Make and copy write a new file, never over one that is there.
 use crate::command::Command;
 use crate::reply::Reply;
-use crate::store::{Loaded, WORDS};
-use crate::words::word;
-use crate::{answer, complain, reply, run, store, usage};
-use model::MOST_PAGES;
+use crate::run::run;
+use crate::store::{LoadError, WORDS};
+use crate::{complain, store};
 use std::io;
 use std::rt::Files;
 
@@ -14,12 +13,8 @@ use std::rt::Files;
 // The pool into a file of a name that no file has; whether that was done.
 fn store_new(rt: &impl Files, err: &impl Print, path: &[u8], pool: &[u64]) -> bool {
     if let Err(error) = store::create(rt, path) {
-        complain::not_made(
-            err,
-            path,
-            b"' exists already: a new pool goes into a new file",
-            error,
-        );
+        let text = "exists already: a new pool goes into a new file";
+        complain::not_made(err, path, text, error);
         return false;
     }
     if !store::store(rt, err, path, pool) {
@@ -31,13 +26,10 @@ fn store_new(rt: &impl Files, err: &impl Print, path: &[u8], pool: &[u64]) -> bo
 
 // Whether the file has what the command has left.
 fn is_kept(rt: &impl Files, err: &impl Print, path: &[u8], pool: &[u64], reply: Reply) -> bool {
-    if reply::is_new(reply) {
+    if reply.is_new() {
         return store_new(rt, err, path, pool);
     }
-    if reply::is_change(reply) {
-        return store::store(rt, err, path, pool);
-    }
-    true
+    !reply.is_change() || store::store(rt, err, path, pool)
 }
 
 fn finish(
@@ -48,125 +40,78 @@ fn finish(
     reply: Reply,
 ) -> io::Result<()> {
     if is_kept(rt, err, path, pool, reply) {
-        reply::tell(rt, reply)?;
+        reply.tell(rt)?;
     }
     Ok(())
 }
 
-// ---- copy
-
-fn copy_to(
-    rt: &(impl Files + Print),
-    err: &impl Print,
-    path: &[u8],
-    pool: &[u64],
-    other: &mut [u64],
-) -> io::Result<()> {
-    let reply = answer::done(map::pool::copy(pool, other), reply::plain(reply::COPIED));
-    finish(rt, err, path, other, reply)
-}
-
-fn copy_in(
-    rt: &(impl Files + Print),
-    err: &impl Print,
-    path: &[u8],
-    pool: &[u64],
-    words: &mut [u64],
-) -> io::Result<()> {
-    let n = pool.len();
-    if n <= words.len() {
-        copy_to(rt, err, path, pool, &mut words[0..n])?;
-    }
-    Ok(())
-}
-
-fn copy(rt: &(impl Files + Print), err: &impl Print, path: &[u8], pool: &[u64]) -> io::Result<()> {
-    let mut words = [0u64; WORDS];
-    copy_in(rt, err, path, pool, &mut words)
-}
-
-// ---- all commands
+// ---- the commands
 
 fn run_on(
     rt: &(impl Files + Print),
     err: &impl Print,
-    line: &[u8],
+    file: &[u8],
     pool: &mut [u64],
-    command: Command,
+    command: Command<'_>,
 ) -> io::Result<()> {
-    if command.verb == usage::COPY {
-        return copy(rt, err, word(line, 2), pool);
-    }
-    let reply = run::run(rt, pool, command)?;
-    finish(rt, err, word(line, 1), pool, reply)
+    let reply = run(rt, pool, command)?;
+    finish(rt, err, file, pool, reply)
 }
 
-fn run_in(
-    rt: &(impl Files + Print),
-    err: &impl Print,
-    line: &[u8],
-    words: &mut [u64],
-    n: usize,
-    command: Command,
-) -> io::Result<()> {
-    if n <= words.len() {
-        run_on(rt, err, line, &mut words[0..n], command)?;
-    }
-    Ok(())
+fn copy(rt: &(impl Files + Print), err: &impl Print, to: &[u8], pool: &[u64]) -> io::Result<()> {
+    let mut words = [0; WORDS];
+    let Some(other) = words.get_mut(..pool.len()) else {
+        return Ok(());
+    };
+    let reply = match map::pool::copy(pool, other) {
+        Ok(()) => Reply::Copied,
+        Err(why) => Reply::Refused(why),
+    };
+    finish(rt, err, to, other, reply)
 }
 
 // A file that is no pool by its length is not sound either, and that is all.
-fn no_pool(rt: &impl Print, verb: usize) -> io::Result<()> {
-    if verb == usage::CHECK {
-        reply::tell(rt, reply::plain(reply::UNSOUND))?;
-    }
-    Ok(())
-}
-
-fn load(
-    rt: &(impl Files + Print),
-    err: &impl Print,
-    line: &[u8],
-    words: &mut [u64],
-    command: Command,
-) -> io::Result<()> {
-    match store::load(rt, err, word(line, 1), words) {
-        Loaded::Words(n) => run_in(rt, err, line, words, n, command),
-        Loaded::NoPool => no_pool(rt, command.verb),
-        Loaded::Failed => Ok(()),
+fn no_pool(rt: &impl Print, err: &impl Print, file: &[u8], command: Command<'_>) -> io::Result<()> {
+    complain::length(err, file);
+    match command {
+        Command::Check => Reply::NotSound.tell(rt),
+        _ => Ok(()),
     }
 }
 
-fn begin(
+// A command on the pool that is loaded.
+fn on(
     rt: &(impl Files + Print),
     err: &impl Print,
-    line: &[u8],
+    file: &[u8],
     words: &mut [u64],
-    command: Command,
+    command: Command<'_>,
 ) -> io::Result<()> {
-    if command.verb != usage::MAKE {
-        return load(rt, err, line, words, command);
+    match store::load(rt, file, words) {
+        Ok(pool) => match command {
+            Command::Copy(to) => copy(rt, err, to, pool),
+            _ => run_on(rt, err, file, pool, command),
+        },
+        Err(LoadError::NoPool) => no_pool(rt, err, file, command),
+        Err(LoadError::Unread(error)) => {
+            complain::file(err, file, error);
+            Ok(())
+        }
     }
-    let pages = command.a;
-    if pages <= MOST_PAGES as u64 {
-        run_in(
-            rt,
-            err,
-            line,
-            words,
-            model::first_word(pages as usize),
-            command,
-        )?;
-    }
-    Ok(())
 }
 
 pub fn act(
     rt: &(impl Files + Print),
     err: &impl Print,
-    line: &[u8],
-    command: Command,
+    file: &[u8],
+    command: Command<'_>,
 ) -> io::Result<()> {
-    let mut words = [0u64; WORDS];
-    begin(rt, err, line, &mut words, command)
+    let mut words = [0; WORDS];
+    match command {
+        Command::Make { size, .. } => match words.get_mut(..size.words()) {
+            Some(pool) => run_on(rt, err, file, pool, command),
+            None => Ok(()),
+        },
+        _ => on(rt, err, file, &mut words, command),
+    }
 }

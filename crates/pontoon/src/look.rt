@@ -1,85 +1,47 @@
 // The words of a pool, and the commands that print entries, a line each: list, and scrub, which opens the cursor and
-// closes it by itself. Each answer is taken apart, and they go on only with the entry that it carries.
-use crate::command::{EXCLUDED, INCLUDED};
-use crate::reply::{Reply, plain};
-use crate::say::say;
-use crate::{answer, reply};
-use cursor::Step;
-use cursor::opening::Opened;
-use map::list::Listed;
-use map::refusal::SET;
-use model::{KIND, MOST, MOST_PAGES};
+// closes it by itself. They go on only with the entry that an answer carries.
+use crate::command::numbers;
+use crate::kind::Kind;
+use crate::reply::{Line, Reply, Stop};
+use map::refusal::Refusal;
+use model::{MOST, MOST_PAGES};
+use page::Entry;
 use std::io;
+use std::ops::Bound;
 
 // The head's word 1: how many pages there are.
 pub const PAGES: usize = 1;
 
 // A word of a pool; 0 past the end.
 pub fn word(pool: &[u64], i: usize) -> u64 {
-    if i < pool.len() {
-        return pool[i];
-    }
-    0
-}
-
-pub fn is_set(pool: &[u64]) -> bool {
-    word(pool, KIND) == SET
+    pool.get(i).copied().unwrap_or(0)
 }
 
 // ---- list
 
-// The list of a pool of its own kind; a set has no places.
-fn write(
-    pool: &[u64],
-    lower: u64,
-    from: u64,
-    upper: u64,
-    to: u64,
-    ticks: &mut [u64],
-    places: &mut [u64],
-) -> Listed {
-    if is_set(pool) {
-        return map::set::list(pool, lower, from, upper, to, ticks);
+// The first entry between two bounds, by the list of a pool of its own kind; a set has no places.
+fn first(pool: &[u64], from: Bound<u64>, to: Bound<u64>) -> Result<Option<Entry>, Refusal> {
+    let (lower, from) = numbers(from);
+    let (upper, to) = numbers(to);
+    let mut ticks = [0];
+    let mut places = [0];
+    let n = match Kind::of(pool) {
+        Kind::Map => map::list::entries(pool, lower, from, upper, to, &mut ticks, &mut places)?,
+        Kind::Set => map::set::list(pool, lower, from, upper, to, &mut ticks)?,
+    };
+    if n == 0 {
+        return Ok(None);
     }
-    map::list::entries(pool, lower, from, upper, to, ticks, places)
+    Ok(Some(Entry {
+        key: ticks[0],
+        value: places[0],
+    }))
 }
 
-// The first entry between two bounds.
-fn first(pool: &[u64], lower: u64, from: u64, upper: u64, to: u64) -> Step {
-    let mut ticks = [0u64; 1];
-    let mut places = [0u64; 1];
-    match write(pool, lower, from, upper, to, &mut ticks, &mut places) {
-        Listed::Refused(why) => Step::Refused(why),
-        Listed::Wrote(n) => {
-            if n == 0 {
-                return Step::End;
-            }
-            Step::Entry(ticks[0], places[0])
-        }
-    }
-}
-
-fn print(rt: &impl Print, pool: &[u64], tick: u64, place: u64) -> io::Result<()> {
-    if is_set(pool) {
-        say(rt, b"tick #\n", tick, 0, 0)
-    } else {
-        say(rt, b"tick #, place #\n", tick, place, 0)
-    }
-}
-
-fn listed(entries: usize) -> Reply {
-    match entries {
-        0 => plain(reply::NO_ENTRIES),
-        1 => Reply(reply::ONE_ENTRY, 1, 0),
-        _ => Reply(reply::ENTRIES, entries as u64, 0),
-    }
-}
-
-// After so many entries there is no further one.
-fn ended(answer: Step, entries: usize) -> Reply {
-    match answer {
-        Step::Refused(why) => reply::refused(why),
-        _ => listed(entries),
+fn print(rt: &impl Print, kind: Kind, entry: Entry) -> io::Result<()> {
+    match kind {
+        Kind::Map => rt.println(Line(entry)),
+        Kind::Set => println!(rt; "tick {}", entry.key),
     }
 }
 
@@ -87,51 +49,39 @@ fn ended(answer: Step, entries: usize) -> Reply {
 pub fn list(
     rt: &impl Print,
     pool: &[u64],
-    lower: u64,
-    from: u64,
-    upper: u64,
-    to: u64,
-) -> io::Result<Reply> {
-    let mut kind = lower;
+    from: Bound<u64>,
+    to: Bound<u64>,
+) -> Result<Reply, Stop> {
     let mut after = from;
-    let mut i: usize = 0;
-    while i <= MOST * MOST_PAGES {
-        let answer = first(pool, kind, after, upper, to);
-        let Step::Entry(tick, place) = answer else {
-            return Ok(ended(answer, i));
+    for n in 0..=MOST * MOST_PAGES {
+        let Some(entry) = first(pool, after, to)? else {
+            return Ok(Reply::Listed(n));
         };
-        print(rt, pool, tick, place)?;
-        kind = EXCLUDED;
-        after = tick;
-        i += 1;
+        print(rt, Kind::of(pool), entry)?;
+        after = Bound::Excluded(entry.key);
     }
-    Ok(listed(i))
+    Ok(Reply::Listed(MOST * MOST_PAGES + 1))
 }
 
 // ---- scrub
 
 // So many steps; what ends them is the reply.
-fn steps(rt: &impl Print, pool: &mut [u64], most: u64) -> io::Result<Reply> {
-    let mut i: u64 = 0;
-    while i < most {
-        let answer = cursor::next(pool);
-        let Step::Entry(tick, place) = answer else {
-            return Ok(answer::stepped(answer, reply::ENTRY, reply::END));
+fn steps(rt: &impl Print, pool: &mut [u64], most: u64) -> Result<Reply, Stop> {
+    for _ in 0..most {
+        let Some(entry) = cursor::next(pool)? else {
+            return Ok(Reply::End);
         };
-        say(rt, b"tick #, place #\n", tick, place, 0)?;
-        i += 1;
+        rt.println(Line(entry))?;
     }
-    Ok(plain(reply::TOLD))
+    Ok(Reply::Told)
 }
 
 // Steps from the lower bound of a tick, included.
-pub fn scrub(rt: &impl Print, pool: &mut [u64], tick: u64, most: u64) -> io::Result<Reply> {
-    match cursor::opening::lower(pool, INCLUDED, tick) {
-        Opened::Refused(why) => Ok(reply::refused(why)),
-        Opened::Read(_) => {
-            let last = steps(rt, pool, most);
-            cursor::close(pool);
-            last
-        }
-    }
+pub fn scrub(rt: &impl Print, pool: &mut [u64], tick: u64, most: u64) -> Result<Reply, Stop> {
+    let (kind, tick) = numbers(Bound::Included(tick));
+    cursor::opening::lower(pool, kind, tick)?;
+    let last = steps(rt, pool, most);
+    // It is open, so it is closed and nothing refused.
+    let _ = cursor::close(pool);
+    last
 }

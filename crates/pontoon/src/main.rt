@@ -2,51 +2,46 @@
 // sample, which works in memory, or to the commands on a file.
 #![tactic(auto)]
 
-pub mod answer;
 pub mod command;
 pub mod complain;
 pub mod file;
+pub mod kind;
 pub mod look;
 pub mod reply;
 pub mod run;
 pub mod sample;
-pub mod say;
 pub mod show;
+pub mod size;
 pub mod stats;
 pub mod store;
 pub mod usage;
 pub mod words;
 
-use crate::command::{BAD, HELP};
-use crate::usage::{SAMPLE, USAGE};
-use crate::words::{Gathered, LINE};
+use crate::command::Command;
+use crate::words::{LINE, Words};
 use std::io;
 use std::rt::Files;
 
-fn begin(rt: &(impl Files + Print), err: &impl Print, usage: &[u8], line: &[u8]) -> io::Result<()> {
-    let command = command::parse(usage, line);
-    let verb = command.verb;
-    match verb {
-        HELP => usage::help(rt, usage),
-        SAMPLE => sample::tour(rt, usage),
-        BAD => {
-            complain::about(err, usage, line, command.a, command.b);
+fn begin(rt: &(impl Files + Print), err: &impl Print, words: Words<'_>) -> io::Result<()> {
+    match command::parse(words) {
+        Ok(Command::Help) => usage::help(rt),
+        Ok(Command::Sample) => sample::tour(rt),
+        Ok(command) => file::act(rt, err, words.word(1), command),
+        Err(bad) => {
+            complain::about(err, words, bad);
             Ok(())
         }
-        _ => file::act(rt, err, line, command),
     }
 }
 
 // The exit status is 0 in any case, also where standard output takes nothing more; the command then ends.
 fn main(rt: HostRuntime) {
     let err = rt.stderr();
-    let mut line = [0u8; LINE];
+    let mut line = [0; LINE];
     match words::gather(&rt, &mut line) {
-        Gathered::Bytes(n) => {
-            if n <= LINE {
-                let _ = begin(&rt, &err, &USAGE, &line[0..n]);
-            }
+        Some(line) => {
+            let _ = begin(&rt, &err, Words::new(line, 0));
         }
-        Gathered::TooLong => complain::too_long(&err),
+        None => complain::too_long(&err),
     }
 }

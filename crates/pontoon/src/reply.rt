@@ -1,137 +1,168 @@
-// What a command comes to: a line of the book, with its numbers. The lines are in order: nothing, the refusals by
-// document 01's numbers, what changes the pool, what does not.
-use crate::say::{say, write};
-use crate::words::word;
+// What a command comes to, and the line that says it.
+use crate::kind::Kind;
+use map::refusal;
 use map::refusal::Refusal;
-use std::io;
+use page::Entry;
+use std::{fmt, io};
 
-const BOOK: [u8; 754] = *b"
-
-refused (1): no pool, by its length or its head
-refused (2): not for this kind of pool: a map has places and a cursor, a set has neither
-refused (3): no such kind of bound
-refused (4): the cursor is open
-refused (5): the cursor is closed
-refused (6): the tick is not strictly between its neighbours
-refused (7): no free page for a new tick
-refused (8): the two pools have different lengths
-refused (9): the pool is not sound
-a new map of # page%
-a new set of # page%
-copied
-cleared
-new
-before: #
-removed
-removed: place #
-removed: tick #, place #
-open, # page% read
-closed
-tick #, place #
-tick #, place #
-there already
-absent
-place #, # page% read
-present, # page% read
-absent, # page% read
-the end
-the start
-no entries
-# entry
-# entries
-sound
-not sound";
-
-pub const TOLD: usize = 0;
-
-pub const MADE_MAP: usize = 10;
-
-pub const MADE_SET: usize = 11;
-
-pub const COPIED: usize = 12;
-
-pub const CLEARED: usize = 13;
-
-pub const NEW: usize = 14;
-
-pub const BEFORE: usize = 15;
-
-pub const STRUCK: usize = 16;
-
-pub const STRUCK_PLACE: usize = 17;
-
-pub const STRUCK_ENTRY: usize = 18;
-
-pub const OPENED: usize = 19;
-
-pub const CLOSED: usize = 20;
-
-pub const ENTRY: usize = 21;
-
-pub const SEEN: usize = 22;
-
-pub const THERE: usize = 23;
-
-pub const ABSENT: usize = 24;
-
-pub const PLACE: usize = 25;
-
-pub const PRESENT: usize = 26;
-
-pub const MISSING: usize = 27;
-
-pub const END: usize = 28;
-
-pub const START: usize = 29;
-
-pub const NO_ENTRIES: usize = 30;
-
-pub const ONE_ENTRY: usize = 31;
-
-pub const ENTRIES: usize = 32;
-
-pub const SOUND: usize = 33;
-
-pub const UNSOUND: usize = 34;
-
-// A line and up to two numbers.
 #[derive(Clone, Copy)]
-pub struct Reply(pub usize, pub u64, pub u64);
-
-pub fn plain(line: usize) -> Reply {
-    Reply(line, 0, 0)
+pub enum Reply {
+    // All is said already.
+    Told,
+    Refused(Refusal),
+    Made(Kind, u64),
+    Copied,
+    Cleared,
+    New,
+    // The place that a tick had.
+    Before(u64),
+    Removed,
+    RemovedPlace(u64),
+    RemovedEntry(Entry),
+    // With how many pages were read.
+    Opened(usize),
+    Closed,
+    // The entry that the gap went over.
+    Passed(Entry),
+    Seen(Entry),
+    // A tick that a set has, and one that a pool has not.
+    There,
+    Absent,
+    // The same of a get, and a tick's place, with how many pages were read.
+    Place(u64, usize),
+    Present(usize),
+    Missing(usize),
+    End,
+    Start,
+    Listed(usize),
+    Sound,
+    NotSound,
 }
 
-pub fn refused(why: Refusal) -> Reply {
-    Reply(map::refusal::number(why) as usize, 0, 0)
-}
+impl Reply {
+    // Whether the pool is new, and goes into a new file.
+    pub fn is_new(self) -> bool {
+        matches!(self, Reply::Made(..) | Reply::Copied)
+    }
 
-// Whether the pool is new, and goes into a new file.
-pub fn is_new(reply: Reply) -> bool {
-    let line = reply.0;
-    match line {
-        MADE_MAP..=COPIED => true,
-        _ => false,
+    // Whether a word of the pool may be another.
+    pub fn is_change(self) -> bool {
+        matches!(
+            self,
+            Reply::Cleared
+                | Reply::New
+                | Reply::Before(_)
+                | Reply::Removed
+                | Reply::RemovedPlace(_)
+                | Reply::RemovedEntry(_)
+                | Reply::Opened(_)
+                | Reply::Closed
+                | Reply::Passed(_)
+        )
+    }
+
+    pub fn tell(self, rt: &impl Print) -> io::Result<()> {
+        match self {
+            Reply::Told => Ok(()),
+            _ => rt.println(self),
+        }
     }
 }
 
-// Whether a word of the pool may be another.
-pub fn is_change(reply: Reply) -> bool {
-    let line = reply.0;
-    match line {
-        MADE_MAP..=ENTRY => true,
-        _ => false,
+// What ends a command before its reply: a refusal, or standard output that takes nothing more.
+#[derive(Debug, Drop)]
+pub enum Stop {
+    Refused(Refusal),
+    Unwritten(io::Error),
+}
+
+impl From<Refusal> for Stop {
+    fn from(why: Refusal) -> Stop {
+        Stop::Refused(why)
     }
 }
 
-fn print(rt: &impl Print, book: &[u8], reply: Reply) -> io::Result<()> {
-    if reply.0 == TOLD {
-        return Ok(());
+impl From<io::Error> for Stop {
+    fn from(error: io::Error) -> Stop {
+        Stop::Unwritten(error)
     }
-    say(rt, word(book, reply.0), reply.1, reply.2, 0)?;
-    write(rt, b"\n")
 }
 
-pub fn tell(rt: &impl Print, reply: Reply) -> io::Result<()> {
-    print(rt, &BOOK, reply)
+// ---- texts
+
+// What is written after a word for things that are so many.
+pub fn plural(n: u64) -> &'static str {
+    if n == 1 { "" } else { "s" }
+}
+
+// An entry of a map as text.
+#[derive(Clone, Copy)]
+pub struct Line(pub Entry);
+
+impl fmt::Display for Line {
+    fn fmt<W: fmt::Write>(&self, f: &mut fmt::Formatter<W>) -> fmt::Result {
+        write!(f, "tick {}, place {}", self.0.key, self.0.value)
+    }
+}
+
+fn reason(why: Refusal) -> &'static str {
+    match why {
+        Refusal::Unfit => "no pool, by its length or its head",
+        Refusal::OtherKind => {
+            "not for this kind of pool: a map has places and a cursor, a set has neither"
+        }
+        Refusal::BadBound => "no such kind of bound",
+        Refusal::Opened => "the cursor is open",
+        Refusal::Closed => "the cursor is closed",
+        Refusal::Misplaced => "the tick is not strictly between its neighbours",
+        Refusal::NoRoom => "no free page for a new tick",
+        Refusal::Lengths => "the two pools have different lengths",
+        Refusal::Unsound => "the pool is not sound",
+    }
+}
+
+// So many pages, of one without the s.
+#[derive(Clone, Copy)]
+struct Pages(u64);
+
+impl fmt::Display for Pages {
+    fn fmt<W: fmt::Write>(&self, f: &mut fmt::Formatter<W>) -> fmt::Result {
+        let n = self.0;
+        let s = plural(n);
+        write!(f, "{n} page{s}")
+    }
+}
+
+impl fmt::Display for Reply {
+    fn fmt<W: fmt::Write>(&self, f: &mut fmt::Formatter<W>) -> fmt::Result {
+        match *self {
+            Reply::Told => Ok(()),
+            Reply::Refused(why) => {
+                write!(f, "refused ({}): {}", refusal::number(why), reason(why))
+            }
+            Reply::Made(kind, pages) => write!(f, "a new {kind} of {}", Pages(pages)),
+            Reply::Copied => f.write_str("copied"),
+            Reply::Cleared => f.write_str("cleared"),
+            Reply::New => f.write_str("new"),
+            Reply::Before(place) => write!(f, "before: {place}"),
+            Reply::Removed => f.write_str("removed"),
+            Reply::RemovedPlace(place) => write!(f, "removed: place {place}"),
+            Reply::RemovedEntry(entry) => write!(f, "removed: {}", Line(entry)),
+            Reply::Opened(read) => write!(f, "open, {} read", Pages(read as u64)),
+            Reply::Closed => f.write_str("closed"),
+            Reply::Passed(entry) | Reply::Seen(entry) => write!(f, "{}", Line(entry)),
+            Reply::There => f.write_str("there already"),
+            Reply::Absent => f.write_str("absent"),
+            Reply::Place(place, read) => write!(f, "place {place}, {} read", Pages(read as u64)),
+            Reply::Present(read) => write!(f, "present, {} read", Pages(read as u64)),
+            Reply::Missing(read) => write!(f, "absent, {} read", Pages(read as u64)),
+            Reply::End => f.write_str("the end"),
+            Reply::Start => f.write_str("the start"),
+            Reply::Listed(0) => f.write_str("no entries"),
+            Reply::Listed(1) => f.write_str("1 entry"),
+            Reply::Listed(n) => write!(f, "{n} entries"),
+            Reply::Sound => f.write_str("sound"),
+            Reply::NotSound => f.write_str("not sound"),
+        }
+    }
 }

@@ -1,101 +1,120 @@
 // A command on a pool in memory: the same for a pool that a file keeps and for the sample's. What takes a map and a
 // set goes by the pool's kind. A refused call has changed no word.
-use crate::command::Command;
-use crate::look::{PAGES, is_set};
-use crate::reply::{Reply, plain};
-use crate::{answer, command, look, reply, show, stats, usage};
-use map::pool::Answer;
-use map::refusal::MAP;
+use crate::command::{Command, Gap, numbers};
+use crate::kind::Kind;
+use crate::look::{PAGES, word};
+use crate::reply::{Reply, Stop};
+use crate::{look, show, stats};
+use map::refusal::Refusal;
 use std::io;
 
 // A new pool, of as many pages as there are words for.
-fn make(pool: &mut [u64], kind: u64) -> Reply {
-    match map::pool::make(pool, kind) {
-        Answer::Refused(why) => reply::refused(why),
-        Answer::Done => {
-            if kind == MAP {
-                return Reply(reply::MADE_MAP, look::word(pool, PAGES), 0);
-            }
-            Reply(reply::MADE_SET, look::word(pool, PAGES), 0)
+fn make(pool: &mut [u64], kind: Kind) -> Result<Reply, Refusal> {
+    map::pool::make(pool, kind.number())?;
+    Ok(Reply::Made(kind, word(pool, PAGES)))
+}
+
+// A place is for a map; a set is given none.
+fn insert(pool: &mut [u64], tick: u64, place: Option<u64>) -> Result<Reply, Refusal> {
+    if let Some(place) = place {
+        return Ok(map::insert(pool, tick, place)?.map_or(Reply::New, Reply::Before));
+    }
+    if map::set::insert(pool, tick)? {
+        Ok(Reply::New)
+    } else {
+        Ok(Reply::There)
+    }
+}
+
+fn remove(pool: &mut [u64], tick: u64) -> Result<Reply, Refusal> {
+    if Kind::of(pool) == Kind::Map {
+        return Ok(map::remove(pool, tick)?.map_or(Reply::Absent, Reply::RemovedPlace));
+    }
+    if map::set::remove(pool, tick)? {
+        Ok(Reply::Removed)
+    } else {
+        Ok(Reply::Absent)
+    }
+}
+
+fn get(pool: &[u64], tick: u64) -> Result<Reply, Refusal> {
+    let kind = Kind::of(pool);
+    let got = match kind {
+        Kind::Map => map::get(pool, tick)?,
+        Kind::Set => map::set::get(pool, tick)?,
+    };
+    Ok(match (got.value, kind) {
+        (None, _) => Reply::Missing(got.read),
+        (Some(place), Kind::Map) => Reply::Place(place, got.read),
+        (Some(_), Kind::Set) => Reply::Present(got.read),
+    })
+}
+
+// The cursor, which stays open from one command to the next: its gap is kept in the pool's head.
+fn open(pool: &mut [u64], gap: Gap) -> Result<Reply, Refusal> {
+    let read = match gap {
+        Gap::Lower(bound) => {
+            let (kind, tick) = numbers(bound);
+            cursor::opening::lower(pool, kind, tick)?
         }
-    }
+        Gap::Upper(bound) => {
+            let (kind, tick) = numbers(bound);
+            cursor::opening::upper(pool, kind, tick)?
+        }
+    };
+    Ok(Reply::Opened(read))
 }
 
-fn remove(pool: &mut [u64], tick: u64) -> Reply {
-    if is_set(pool) {
-        return answer::set_removed(map::set::remove(pool, tick));
-    }
-    answer::removed(map::remove(pool, tick))
+fn ask(rt: &impl Print, pool: &mut [u64], command: Command<'_>) -> Result<Reply, Stop> {
+    Ok(match command {
+        // These are not for one pool in memory.
+        Command::Help | Command::Sample | Command::Copy(_) => Reply::Told,
+        Command::Make { kind, .. } => make(pool, kind)?,
+        Command::Clear => {
+            map::pool::clear(pool)?;
+            Reply::Cleared
+        }
+        Command::Check if map::pool::check(pool) => Reply::Sound,
+        Command::Check => Reply::NotSound,
+        Command::Show => show::show(rt, pool)?,
+        Command::Stats => stats::stats(rt, pool)?,
+        Command::Insert { tick, place } => insert(pool, tick, place)?,
+        Command::Get(tick) => get(pool, tick)?,
+        Command::Replace(e) => {
+            map::replace(pool, e.key, e.value)?.map_or(Reply::Absent, Reply::Before)
+        }
+        Command::Remove(tick) => remove(pool, tick)?,
+        Command::List { from, to } => look::list(rt, pool, from, to)?,
+        Command::Open(gap) => open(pool, gap)?,
+        Command::Next => cursor::next(pool)?.map_or(Reply::End, Reply::Passed),
+        Command::Prev => cursor::prev(pool)?.map_or(Reply::Start, Reply::Passed),
+        Command::PeekNext => cursor::peek_next(pool)?.map_or(Reply::End, Reply::Seen),
+        Command::PeekPrev => cursor::peek_prev(pool)?.map_or(Reply::Start, Reply::Seen),
+        Command::WriteNext(place) => {
+            cursor::write_next(pool, place)?.map_or(Reply::End, Reply::Before)
+        }
+        Command::WritePrev(place) => {
+            cursor::write_prev(pool, place)?.map_or(Reply::Start, Reply::Before)
+        }
+        Command::InsertAfter(e) => {
+            cursor::edit::insert_after(pool, e.key, e.value)?;
+            Reply::New
+        }
+        Command::RemoveNext => {
+            cursor::edit::remove_next(pool)?.map_or(Reply::End, Reply::RemovedEntry)
+        }
+        Command::Close => {
+            cursor::close(pool)?;
+            Reply::Closed
+        }
+        Command::Scrub { tick, steps } => look::scrub(rt, pool, tick, steps)?,
+    })
 }
 
-fn get(pool: &[u64], tick: u64) -> Reply {
-    if is_set(pool) {
-        return answer::set_got(map::set::get(pool, tick));
-    }
-    answer::got(map::get(pool, tick))
-}
-
-// The commands that read; they work while the cursor is open.
-fn reading(rt: &impl Print, pool: &[u64], command: Command) -> io::Result<Reply> {
-    let verb = command.verb;
-    match verb {
-        usage::GET => Ok(get(pool, command.a)),
-        usage::LIST => look::list(rt, pool, command.lower, command.a, command.upper, command.b),
-        usage::CHECK => Ok(answer::checked(map::pool::check(pool))),
-        usage::SHOW => show::show(rt, pool),
-        usage::STATS => stats::stats(rt, pool),
-        usage::PEEK_NEXT => Ok(answer::stepped(cursor::peek_next(pool), reply::SEEN, reply::END)),
-        usage::PEEK_PREV => Ok(answer::stepped(cursor::peek_prev(pool), reply::SEEN, reply::START)),
-        _ => Ok(plain(reply::TOLD)),
-    }
-}
-
-// The commands that move the gap, which is kept in the pool's head: the cursor stays open from one command to the next.
-fn step(rt: &impl Print, pool: &mut [u64], command: Command) -> io::Result<Reply> {
-    let verb = command.verb;
-    match verb {
-        usage::OPEN => Ok(answer::opened(cursor::opening::lower(pool, command.lower, command.a))),
-        command::OPEN_UPPER => Ok(answer::opened(cursor::opening::upper(
-            pool,
-            command.upper,
-            command.a,
-        ))),
-        usage::NEXT => Ok(answer::stepped(cursor::next(pool), reply::ENTRY, reply::END)),
-        usage::PREV => Ok(answer::stepped(cursor::prev(pool), reply::ENTRY, reply::START)),
-        usage::CLOSE => Ok(answer::done(cursor::close(pool), plain(reply::CLOSED))),
-        usage::SCRUB => look::scrub(rt, pool, command.a, command.b),
-        _ => reading(rt, pool, command),
-    }
-}
-
-// The commands that change an entry at the gap.
-fn edit(rt: &impl Print, pool: &mut [u64], command: Command) -> io::Result<Reply> {
-    let verb = command.verb;
-    match verb {
-        usage::WRITE_NEXT => Ok(answer::wrote(cursor::write_next(pool, command.a), reply::END)),
-        usage::WRITE_PREV => Ok(answer::wrote(cursor::write_prev(pool, command.a), reply::START)),
-        usage::INSERT_AFTER => Ok(answer::done(
-            cursor::edit::insert_after(pool, command.a, command.b),
-            plain(reply::NEW),
-        )),
-        usage::REMOVE_NEXT => Ok(answer::stepped(
-            cursor::edit::remove_next(pool),
-            reply::STRUCK_ENTRY,
-            reply::END,
-        )),
-        _ => step(rt, pool, command),
-    }
-}
-
-pub fn run(rt: &impl Print, pool: &mut [u64], command: Command) -> io::Result<Reply> {
-    let verb = command.verb;
-    match verb {
-        usage::MAKE => Ok(make(pool, command.b)),
-        usage::CLEAR => Ok(answer::done(map::pool::clear(pool), plain(reply::CLEARED))),
-        usage::INSERT => Ok(answer::inserted(map::insert(pool, command.a, command.b))),
-        command::INSERT_TICK => Ok(answer::set_inserted(map::set::insert(pool, command.a))),
-        usage::REPLACE => Ok(answer::replaced(map::replace(pool, command.a, command.b))),
-        usage::REMOVE => Ok(remove(pool, command.a)),
-        _ => edit(rt, pool, command),
+pub fn run(rt: &impl Print, pool: &mut [u64], command: Command<'_>) -> io::Result<Reply> {
+    match ask(rt, pool, command) {
+        Ok(reply) => Ok(reply),
+        Err(Stop::Refused(why)) => Ok(Reply::Refused(why)),
+        Err(Stop::Unwritten(error)) => Err(error),
     }
 }

@@ -1,11 +1,9 @@
 // The sample: the same commands on pools in memory, as they would be typed, and what each says. A burst of 24 frames
 // in a pool of six pages, and a pool of one page that is soon full.
 use crate::command::parse;
-use crate::reply;
-use crate::reply::{Reply, tell};
+use crate::reply::Reply;
 use crate::run::run;
-use crate::say::write;
-use crate::words::{byte, count, is, word};
+use crate::words::Words;
 use model::{FIRST_PAGE, PAGE_WORDS};
 use std::io;
 
@@ -14,10 +12,9 @@ const SAMPLE: usize = FIRST_PAGE + 6 * PAGE_WORDS;
 
 const TINY: usize = FIRST_PAGE + PAGE_WORDS;
 
-// The commands. After a dot stands one that is not shown: it has to say that its tick is new. A line in brackets is a
+// The commands, a line each. After a dot stands one that is not shown: it has to say that its tick is new. A line in brackets is a
 // remark.
-const SCRIPT: [u8; 1237] = *b"
- make sample 6
+const SCRIPT: &str = " make sample 6
  insert sample 1000 0
 . insert sample 1041 1
 . insert sample 1083 2
@@ -73,55 +70,41 @@ const SCRIPT: [u8; 1237] = *b"
  show tiny";
 
 // A command on the pool that it names. The small one begins in the same words once the other is done with.
-fn act(rt: &impl Print, usage: &[u8], words: &mut [u64], line: &[u8]) -> io::Result<Reply> {
-    let mut n = words.len();
-    if is(word(line, 1), b"tiny") {
-        n = TINY;
+fn act(rt: &impl Print, words: &mut [u64; SAMPLE], line: &str) -> io::Result<Reply> {
+    let asked = Words::new(line.as_bytes(), b' ');
+    let n = match asked.word(1) {
+        b"tiny" => TINY,
+        _ => SAMPLE,
+    };
+    match parse(asked) {
+        Ok(command) => run(rt, &mut words[..n], command),
+        Err(_) => Ok(Reply::Told),
     }
-    if n <= words.len() {
-        return run(rt, &mut words[0..n], parse(usage, line));
-    }
-    Ok(reply::plain(reply::TOLD))
 }
 
-fn shown(rt: &impl Print, usage: &[u8], words: &mut [u64], line: &[u8]) -> io::Result<()> {
-    write(rt, b"$ pontoon")?;
-    write(rt, line)?;
-    write(rt, b"\n")?;
-    tell(rt, act(rt, usage, words, line)?)
+fn shown(rt: &impl Print, words: &mut [u64; SAMPLE], line: &str) -> io::Result<()> {
+    println!(rt; "$ pontoon{line}")?;
+    act(rt, words, line)?.tell(rt)
 }
 
 // Nothing is shown of a tick that is new.
-fn hidden(rt: &impl Print, usage: &[u8], words: &mut [u64], line: &[u8]) -> io::Result<()> {
-    let reply = act(rt, usage, words, line)?;
-    if reply.0 != reply::NEW {
-        tell(rt, reply)?;
+fn hidden(rt: &impl Print, words: &mut [u64; SAMPLE], line: &str) -> io::Result<()> {
+    match act(rt, words, line)? {
+        Reply::New => Ok(()),
+        reply => reply.tell(rt),
     }
-    Ok(())
 }
 
-fn turn(rt: &impl Print, usage: &[u8], words: &mut [u64], line: &[u8]) -> io::Result<()> {
-    match byte(line, 0) {
-        b' ' => shown(rt, usage, words, line),
-        b'.' => hidden(rt, usage, words, word(line, 0)),
-        _ => {
-            write(rt, line)?;
-            write(rt, b"\n")
+pub fn tour(rt: &impl Print) -> io::Result<()> {
+    let mut words = [0; SAMPLE];
+    for line in SCRIPT.lines() {
+        if line.starts_with(' ') {
+            shown(rt, &mut words, line)?;
+        } else if let Some(line) = line.strip_prefix('.') {
+            hidden(rt, &mut words, line)?;
+        } else {
+            rt.println(line)?;
         }
     }
-}
-
-fn play(rt: &impl Print, usage: &[u8], script: &[u8], words: &mut [u64]) -> io::Result<()> {
-    let n = count(script);
-    let mut i: usize = 0;
-    while i < n {
-        turn(rt, usage, words, word(script, i))?;
-        i += 1;
-    }
     Ok(())
-}
-
-pub fn tour(rt: &impl Print, usage: &[u8]) -> io::Result<()> {
-    let mut words = [0u64; SAMPLE];
-    play(rt, usage, &SCRIPT, &mut words)
 }

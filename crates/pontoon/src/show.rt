@@ -1,62 +1,38 @@
 // The tree as a picture in text: a line a page, from the root down, a level deeper for each indent; then the free
 // pages. The walk follows children with one level less at each step.
-ghost use Rattle.std.specs.Prelude.{◌≡◌, ◌≤◌, true, IfOk};
+ghost use Rattle.std.specs.Prelude.{◌≡◌, ◌<◌, ◌≤◌, true, IfOk};
 ghost use Rattle.model.specs.Head.{headed};
 ghost use Rattle.lend.specs.Pages.{most, Inside};
 ghost use Rattle.lend.specs.Touches.{Sized};
 
 use crate::look::word;
-use crate::reply::Reply;
-use crate::say::{say, write};
-use crate::{reply, stats};
+use crate::reply::{Reply, Stop, plural};
+use crate::stats;
 use lend::{bits, pages};
-use map::pool::Checked;
 use map::refusal::Refusal;
 use model::{FIRST_PAGE, HEAD_WORDS, MOST, MOST_PAGES, ROOT};
-use pagemap::Lowest;
 use std::io;
 use tree::search;
-use tree::search::Below;
 
 // The most pages that have a line; of more there is only the number.
 const LINES: usize = 64;
 
 // ---- a line
 
-// The first bytes of a text.
-fn some(rt: &impl Print, text: &[u8], n: usize) -> io::Result<()> {
-    if n <= text.len() {
-        write(rt, &text[0..n])?;
-    }
-    Ok(())
-}
-
-// Nine slots, of which the first `n` are filled.
-fn bar(rt: &impl Print, n: usize) -> io::Result<()> {
-    some(rt, b"#########", n)?;
-    some(rt, b"---------", MOST.wrapping_sub(n))
-}
-
-// What a page is shown by: its number, a bar, and its first and last tick.
-fn page(rt: &impl Print, pool: &[u64], p: usize, n: usize) -> io::Result<()>
-    requires { Inside p pool.now }
+// What a page is shown by: its number, a bar of nine slots, and its first and last tick; a level deeper for each
+// indent.
+fn page(rt: &impl Print, pool: &[u64], p: usize, n: usize, deep: usize) -> io::Result<()>
+    requires inside { Inside p pool.now }
+    requires filled { (0 < n) × (n ≤ most) }
+    requires deep { deep < 6 }
 {
-    if n == 0 {
-        return Ok(());
-    }
-    if MOST < n {
-        return Ok(());
-    }
-    let first = pages::entry_at(pool, p, 0);
-    let last = pages::entry_at(pool, p, n - 1);
-    say(rt, b"page # [", p as u64, 0, 0)?;
-    bar(rt, n)?;
-    say(
-        rt,
-        b"] # of 9, ticks # to #\n",
-        n as u64,
-        first.key,
-        last.key,
+    let first = pages::entry_at(pool, p, 0).key;
+    let last = pages::entry_at(pool, p, n - 1).key;
+    let indent = 2 * deep;
+    let free = MOST - n;
+    println!(rt;
+        "{:indent$}page {p} [{:#<n$}{:-<free$}] {n} of {MOST}, ticks {first} to {last}",
+        "", "", ""
     )
 }
 
@@ -65,21 +41,14 @@ fn page(rt: &impl Print, pool: &[u64], p: usize, n: usize) -> io::Result<()>
 fn line(rt: &impl Print, pool: &[u64], p: usize, h: usize, root: usize) -> io::Result<usize>
     ensures { IfOk result (λ n. n ≤ most) }
 {
-    if MOST_PAGES <= p {
-        return Ok(0);
-    }
-    if pool.len() < model::first_word(p + 1) {
+    if MOST_PAGES <= p || pool.len() < model::first_word(p + 1) {
         return Ok(0);
     }
     let n = pages::count(pool, p);
-    if MOST < n {
+    if n == 0 || MOST < n {
         return Ok(0);
     }
-    let deep = root.wrapping_sub(h);
-    if deep <= 5 {
-        some(rt, b"          ", 2 * deep)?;
-    }
-    page(rt, pool, p, n)?;
+    page(rt, pool, p, n, root.saturating_sub(h).min(5))?;
     Ok(n)
 }
 
@@ -87,16 +56,10 @@ fn line(rt: &impl Print, pool: &[u64], p: usize, h: usize, root: usize) -> io::R
 
 // Child `i` of page `p`; where there is none, a number that is no page's.
 fn child(pool: &[u64], p: usize, i: usize) -> usize {
-    if MOST_PAGES <= p {
+    if MOST_PAGES <= p || pool.len() < model::first_word(p + 1) {
         return MOST_PAGES;
     }
-    if pool.len() < model::first_word(p + 1) {
-        return MOST_PAGES;
-    }
-    match search::child(pool, p, i) {
-        Below::Page(c) => c,
-        Below::Unsound => MOST_PAGES,
-    }
+    search::child(pool, p, i).unwrap_or(MOST_PAGES)
 }
 
 // Page `p` of height `h` and all below it, where `shown` pages have a line already; how many have one then.
@@ -113,13 +76,11 @@ fn picture(
     }
     let n = line(rt, pool, p, h, root)?;
     let mut lines = shown + 1;
-    let mut i: usize = 0;
-    while i <= n {
-        if h == 0 {
-            return Ok(lines);
-        }
+    if h == 0 {
+        return Ok(lines);
+    }
+    for i in 0..n + 1 {
         lines = picture(rt, pool, child(pool, p, i), h - 1, root, lines)?;
-        i += 1;
     }
     Ok(lines)
 }
@@ -144,7 +105,8 @@ fn tree(rt: &impl Print, pool: &[u64]) -> io::Result<usize>
 // The pages that are past the lines.
 fn more(rt: &impl Print, shown: usize, taken: usize) -> io::Result<()> {
     if shown < taken {
-        say(rt, b"and # more page%\n", (taken - shown) as u64, 0, 0)?;
+        let n = taken - shown;
+        println!(rt; "and {n} more page{}", plural(n as u64))?;
     }
     Ok(())
 }
@@ -154,35 +116,30 @@ fn free(rt: &impl Print, pool: &[u64], taken: usize) -> io::Result<()>
     requires { Sized pool.now }
 {
     let all = bits::pages_in(pool);
-    let left = all.wrapping_sub(taken) as u64;
+    let left = all.saturating_sub(taken);
     match pagemap::lowest_free(&pool[HEAD_WORDS..FIRST_PAGE], all) {
-        Lowest::Page(p) => say(
-            rt,
-            b"free pages: #, the lowest is page #\n",
-            left,
-            p as u64,
-            0,
-        ),
-        Lowest::None => write(rt, b"free pages: none\n"),
+        Some(p) => println!(rt; "free pages: {left}, the lowest is page {p}"),
+        None => rt.println("free pages: none"),
     }
 }
 
-fn sound(rt: &impl Print, pool: &[u64]) -> io::Result<Reply>
+fn sound(rt: &impl Print, pool: &[u64]) -> io::Result<()>
     requires { headed pool.now ≡ true }
 {
     let taken = bits::taken(pool);
     more(rt, tree(rt, pool)?, taken)?;
-    free(rt, pool, taken)?;
-    Ok(reply::plain(reply::TOLD))
+    free(rt, pool, taken)
 }
 
 // A pool that is not sound has no picture.
-pub fn show(rt: &impl Print, pool: &[u64]) -> io::Result<Reply> {
+pub fn show(rt: &impl Print, pool: &[u64]) -> Result<Reply, Stop> {
     if !lend::head::fits(pool) {
-        return Ok(reply::refused(Refusal::Unfit));
+        return Err(Stop::Refused(Refusal::Unfit));
     }
-    match map::pool::check(pool) {
-        Checked::Sound => sound(rt, pool),
-        Checked::Unsound => stats::unsound(rt, pool),
+    if map::pool::check(pool) {
+        sound(rt, pool)?;
+    } else {
+        stats::unsound(rt, pool)?;
     }
+    Ok(Reply::Told)
 }

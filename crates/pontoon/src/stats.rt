@@ -3,130 +3,86 @@
 ghost use Rattle.std.specs.Prelude.{◌≡◌, true};
 ghost use Rattle.model.specs.Head.{headed};
 
-use crate::look::{PAGES, is_set, word};
-use crate::reply;
-use crate::reply::Reply;
-use crate::say::{say, write};
-use map::pool::Checked;
+use crate::kind::Kind;
+use crate::look::{PAGES, word};
+use crate::reply::{Reply, Stop, plural};
 use map::refusal::Refusal;
-use model::{AFTER, COUNT, KEY, LEAST, LEVELS, MOST, MOST_PAGES, OPEN};
+use model::{AFTER, COUNT, KEY, LEAST, LEVELS, MOST, OPEN};
 use std::io;
 
 // ---- numbers
 
-// The entries of a page in the mean, as a part of nine, in percent.
+// The entries of a page in the mean, as a part of nine, in percent; 0 where no page is taken.
 fn percent(entries: u64, taken: u64) -> u64 {
-    if taken == 0 {
-        return 0;
-    }
-    if (MOST_PAGES as u64) < taken {
-        return 0;
-    }
-    if ((MOST * MOST_PAGES) as u64) < entries {
-        return 0;
-    }
-    100 * entries / (MOST as u64 * taken)
-}
-
-// What is left of a number; 0 where it is used up.
-fn left(number: u64, used: u64) -> u64 {
-    if number < used {
-        return 0;
-    }
-    number - used
+    let slots = taken.saturating_mul(MOST as u64);
+    entries.saturating_mul(100).checked_div(slots).unwrap_or(0)
 }
 
 // ---- lines
 
-fn kind(rt: &impl Print, pool: &[u64]) -> io::Result<()> {
-    if is_set(pool) {
-        write(rt, b"kind     set\n")
-    } else {
-        write(rt, b"kind     map\n")
-    }
-}
-
 fn cursor(rt: &impl Print, pool: &[u64]) -> io::Result<()> {
     if word(pool, OPEN) == 0 {
-        write(rt, b"cursor   closed\n")
+        rt.println("cursor   closed")
     } else if word(pool, AFTER) == 0 {
-        write(rt, b"cursor   open, at the start\n")
+        rt.println("cursor   open, at the start")
     } else {
-        say(rt, b"cursor   open, after tick #\n", word(pool, KEY), 0, 0)
+        println!(rt; "cursor   open, after tick {}", word(pool, KEY))
     }
 }
 
 // The new ticks that fit whichever they are, for no insert is refused for room while there are at most 4 entries a
 // page; and how many could at most, for a page holds 9.
 fn room(rt: &impl Print, entries: u64, pages: u64) -> io::Result<()> {
-    if (MOST_PAGES as u64) < pages {
-        return Ok(());
-    }
-    say(
-        rt,
-        b"room     # new tick% for sure, at most #\n",
-        left(LEAST as u64 * pages + 1, entries),
-        left(MOST as u64 * pages, entries),
-        0,
+    let sure = pages
+        .saturating_mul(LEAST as u64)
+        .saturating_add(1)
+        .saturating_sub(entries);
+    let most = pages.saturating_mul(MOST as u64).saturating_sub(entries);
+    println!(rt;
+        "room     {sure} new tick{} for sure, at most {most}",
+        plural(sure)
     )
 }
 
 // ---- the pool
 
 // What the head says and no more, for the tree of a pool that is not sound is not walked.
-pub fn unsound(rt: &impl Print, pool: &[u64]) -> io::Result<Reply> {
-    write(rt, b"not sound; its head says:\n")?;
-    kind(rt, pool)?;
-    say(
-        rt,
-        b"entries  #\nlevels   #\npages    #\n",
-        word(pool, COUNT),
-        word(pool, LEVELS),
-        word(pool, PAGES),
-    )?;
-    cursor(rt, pool)?;
-    Ok(reply::plain(reply::TOLD))
+pub fn unsound(rt: &impl Print, pool: &[u64]) -> io::Result<()> {
+    rt.println("not sound; its head says:")?;
+    println!(rt; "kind     {}", Kind::of(pool))?;
+    println!(rt; "entries  {}", word(pool, COUNT))?;
+    println!(rt; "levels   {}", word(pool, LEVELS))?;
+    println!(rt; "pages    {}", word(pool, PAGES))?;
+    cursor(rt, pool)
 }
 
-fn sound(rt: &impl Print, pool: &[u64]) -> io::Result<Reply>
+fn sound(rt: &impl Print, pool: &[u64]) -> io::Result<()>
     requires { headed pool.now ≡ true }
 {
     let taken = lend::bits::taken(pool) as u64;
     let pages = word(pool, PAGES);
+    let free = pages.saturating_sub(taken);
     let entries = word(pool, COUNT);
-    kind(rt, pool)?;
-    say(
-        rt,
-        b"entries  #\nlevels   #\n",
-        entries,
-        word(pool, LEVELS),
-        0,
-    )?;
-    say(
-        rt,
-        b"pages    #: # taken, # free\n",
-        pages,
-        taken,
-        left(pages, taken),
-    )?;
-    say(
-        rt,
-        b"fill     # percent of a page in the mean\n",
-        percent(entries, taken),
-        0,
-        0,
+    println!(rt; "kind     {}", Kind::of(pool))?;
+    println!(rt; "entries  {entries}")?;
+    println!(rt; "levels   {}", word(pool, LEVELS))?;
+    println!(rt; "pages    {pages}: {taken} taken, {free} free")?;
+    println!(rt;
+        "fill     {} percent of a page in the mean",
+        percent(entries, taken)
     )?;
     room(rt, entries, pages)?;
-    cursor(rt, pool)?;
-    Ok(reply::plain(reply::TOLD))
+    cursor(rt, pool)
 }
 
-pub fn stats(rt: &impl Print, pool: &[u64]) -> io::Result<Reply> {
+pub fn stats(rt: &impl Print, pool: &[u64]) -> Result<Reply, Stop> {
     if !lend::head::fits(pool) {
-        return Ok(reply::refused(Refusal::Unfit));
+        return Err(Stop::Refused(Refusal::Unfit));
     }
-    match map::pool::check(pool) {
-        Checked::Sound => sound(rt, pool),
-        Checked::Unsound => unsound(rt, pool),
+    if map::pool::check(pool) {
+        sound(rt, pool)?;
+    } else {
+        unsound(rt, pool)?;
     }
+    Ok(Reply::Told)
 }

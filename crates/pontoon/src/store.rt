@@ -2,7 +2,6 @@
 // step: the new bytes go into a file beside it, which then takes its name, so that a crash leaves the old pool or the
 // new one.
 use crate::complain;
-use crate::words::{byte, put};
 use model::{FIRST_PAGE, MOST_PAGES, PAGE_WORDS};
 use std::fs::{File, OpenFile, OpenOptions};
 use std::io::{Read, Write};
@@ -16,66 +15,26 @@ pub const WORDS: usize = FIRST_PAGE + PAGE_WORDS * MOST_PAGES;
 // Words that are read or written at a time.
 const SOME: usize = 512;
 
-// Bytes of a name, with the byte that the system ends it with, and of what the name of the file beside it has more.
+// What the name of the file beside it has more.
+const NEW: &[u8] = b".new";
+
+// Bytes of such a name; the system takes no path of 4096. An array and no `Vec`, which could want memory.
 const NAME: usize = 4096 + 4;
 
-// How many words were loaded; or that the file is no pool by its length; or that it could not be read.
-#[derive(Clone, Copy)]
-pub enum Loaded {
-    Words(usize),
+// What is said where that name is taken.
+const TAKEN: &str =
+    "is there: another command is writing the pool, or one was cut short; then remove it";
+
+// Why there is no pool: the file is none by its length, or it could not be read.
+#[derive(Debug, Drop)]
+pub enum LoadError {
     NoPool,
-    Failed,
+    Unread(io::Error),
 }
 
-// ---- words and bytes
-
-fn wide(byte: u8) -> u64 {
-    byte as u64
-}
-
-// The word at a place of some bytes, the lowest first.
-fn word_at(bytes: &[u8], at: usize) -> u64 {
-    let mut word: u64 = 0;
-    let mut k: usize = 8;
-    while 0 < k {
-        k -= 1;
-        word = word << 8 | wide(byte(bytes, at.wrapping_add(k)));
-    }
-    word
-}
-
-// Byte `i` of some words; 0 past their end.
-fn byte_at(words: &[u64], i: usize) -> u8 {
-    let w = i / 8;
-    if w < words.len() {
-        let shift = 8 * (i % 8);
-        return ((words[w] >> shift) % 256) as u8;
-    }
-    0
-}
-
-// As many words as the bytes have, and as there is room for.
-fn decode(bytes: &[u8], words: &mut [u64]) {
-    let n = bytes.len() / 8;
-    let mut i: usize = 0;
-    while i < n {
-        put_word(words, i, word_at(bytes, 8 * i));
-        i += 1;
-    }
-}
-
-fn encode(words: &[u64], bytes: &mut [u8]) {
-    let mut i: usize = 0;
-    while i < bytes.len() {
-        put(bytes, i, byte_at(words, i));
-        i += 1;
-    }
-}
-
-// A word at a place, where there is one.
-fn put_word(words: &mut [u64], i: usize, word: u64) {
-    if i < words.len() {
-        words[i] = word;
+impl From<io::Error> for LoadError {
+    fn from(error: io::Error) -> LoadError {
+        LoadError::Unread(error)
     }
 }
 
@@ -83,10 +42,10 @@ fn put_word(words: &mut [u64], i: usize, word: u64) {
 
 // A file's name as text, which it has to be.
 fn text_of(path: &[u8]) -> io::Result<&str> {
-    match str::from_utf8(path) {
-        Ok(text) => Ok(text),
-        Err(_) => Err(io::Error::new(io::ErrorKind::InvalidFilename, "The name is not UTF-8")),
-    }
+    str::from_utf8(path).map_err(|_| io::Error::new(
+        io::ErrorKind::InvalidFilename,
+        "The name is not UTF-8",
+    ))
 }
 
 // A new file of a name that no file has.
@@ -112,107 +71,71 @@ fn rename(rt: &impl Files, from: &[u8], to: &[u8]) -> io::Result<()> {
 
 // The next bytes of a file as words; how many bytes there were.
 fn read_some(file: &mut impl Read, words: &mut [u64]) -> io::Result<usize> {
-    let mut bytes = [0u8; 8 * SOME];
+    let mut bytes = [0; 8 * SOME];
     let n = read_full(file, &mut bytes)?;
-    decode(&bytes[..n], words);
+    for (word, bytes) in words.iter_mut().zip(bytes[..n].as_chunks().0) {
+        *word = u64::from_le_bytes(*bytes);
+    }
     Ok(n)
 }
 
 // The bytes of a file as words; how many bytes there were, until it ended or the words did.
 fn read_all(file: &mut impl Read, words: &mut [u64]) -> io::Result<usize> {
-    let mut at: usize = 0;
-    while at < words.len() {
-        let n = read_some(file, &mut words[at..])?;
+    let mut bytes: usize = 0;
+    for some in words.chunks_mut(SOME) {
+        let n = read_some(file, some)?;
+        bytes = bytes.saturating_add(n);
         if n < 8 * SOME {
-            return Ok((8 * at).wrapping_add(n));
-        }
-        at += SOME;
-    }
-    Ok(8 * at)
-}
-
-// What follows: nothing, where the file has ended.
-fn read_one(file: &mut impl Read) -> io::Result<usize> {
-    let mut byte = [0u8; 1];
-    file.read(&mut byte)
-}
-
-// The words of a file of so many bytes, where nothing follows them.
-fn measured(err: &impl Print, path: &[u8], bytes: usize, more: usize) -> Loaded {
-    if more == 0 {
-        if bytes % 8 == 0 {
-            if lend::head::allowed(bytes / 8) {
-                return Loaded::Words(bytes / 8);
-            }
+            break;
         }
     }
-    complain::length(err, path);
-    Loaded::NoPool
+    Ok(bytes)
 }
 
-// The bytes of a file as words: how many there were, and whether more follow them.
-fn read_file(rt: &impl Files, path: &[u8], words: &mut [u64]) -> io::Result<(usize, usize)> {
+// Whether a file has ended.
+fn is_read(file: &mut impl Read) -> io::Result<bool> {
+    Ok(file.read(&mut [0])? == 0)
+}
+
+// The pool in a file, at the start of words enough for the largest.
+pub fn load<'a>(
+    rt: &impl Files,
+    path: &[u8],
+    words: &'a mut [u64],
+) -> Result<&'a mut [u64], LoadError> {
     let mut file = File::open(rt, text_of(path)?)?;
     let bytes = read_all(&mut file, words)?;
-    let more = read_one(&mut file)?;
-    Ok((bytes, more))
-}
-
-// The words of a file, at the start of words enough for the largest pool.
-pub fn load(rt: &impl Files, err: &impl Print, path: &[u8], words: &mut [u64]) -> Loaded {
-    match read_file(rt, path, words) {
-        Ok((bytes, more)) => measured(err, path, bytes, more),
-        Err(error) => {
-            complain::file(err, path, error);
-            Loaded::Failed
-        }
+    if !is_read(&mut file)? || bytes % 8 != 0 || !lend::head::allowed(bytes / 8) {
+        return Err(LoadError::NoPool);
     }
+    words.get_mut(..bytes / 8).ok_or(LoadError::NoPool)
 }
 
 // ---- storing
 
-// Text at a place of a name, and the place after it; what does not fit is left out, and the place is then past the
-// name's end.
-fn append(name: &mut [u8], at: usize, text: &[u8]) -> usize {
-    let mut to = at;
-    let mut i: usize = 0;
-    while i < text.len() {
-        put(name, to, text[i]);
-        to = to.wrapping_add(1);
-        i += 1;
-    }
-    to
-}
-
-// The name of the file beside it, and how long it is.
-fn beside(path: &[u8], name: &mut [u8]) -> usize {
-    let n = append(name, 0, path);
-    append(name, n, b".new")
+// The name of the file beside it, where there is room for it.
+fn beside<'a>(path: &[u8], room: &'a mut [u8; NAME]) -> Option<&'a [u8]> {
+    let n = path.len();
+    let end = n.checked_add(NEW.len())?;
+    room.get_mut(..n)?.copy_from_slice(path);
+    room.get_mut(n..end)?.copy_from_slice(NEW);
+    room.get(..end)
 }
 
 // The first words of some, as many as are written at a time.
 fn write_some(file: &mut impl Write, words: &[u64]) -> io::Result<()> {
-    let mut bytes = [0u8; 8 * SOME];
-    encode(words, &mut bytes);
-    let n = words.len();
-    if n < SOME {
-        return file.write_all(&bytes[0..8 * n]);
+    let mut all = [[0; 8]; SOME];
+    for (bytes, word) in all.iter_mut().zip(words) {
+        *bytes = word.to_le_bytes();
     }
-    file.write_all(&bytes)
-}
-
-fn write_all(file: &mut impl Write, words: &[u64]) -> io::Result<()> {
-    let mut at: usize = 0;
-    while at < words.len() {
-        write_some(file, &words[at..])?;
-        at += SOME;
-    }
-    Ok(())
+    file.write_all(all[..words.len().min(SOME)].as_flattened())
 }
 
 // All words, on the disk.
 fn flush<F: Write + OpenFile>(file: &mut F, words: &[u64]) -> io::Result<()> {
-    write_all(file, words)?;
+    for some in words.chunks(SOME) {
+        write_some(file, some)?;
+    }
     file.sync_all()
 }
 
@@ -234,12 +157,7 @@ fn replace(rt: &impl Files, err: &impl Print, path: &[u8], name: &[u8], words: &
     let file = match create(rt, name) {
         Ok(file) => file,
         Err(error) => {
-            complain::not_made(
-                err,
-                name,
-                b"' is there: another command is writing the pool, or one was cut short; then remove it",
-                error,
-            );
+            complain::not_made(err, name, TAKEN, error);
             return false;
         }
     };
@@ -254,10 +172,8 @@ fn replace(rt: &impl Files, err: &impl Print, path: &[u8], name: &[u8], words: &
 
 // The pool into the file of a name; whether that was done.
 pub fn store(rt: &impl Files, err: &impl Print, path: &[u8], words: &[u64]) -> bool {
-    let mut name = [0u8; NAME];
-    let n = beside(path, &mut name);
-    if NAME < n {
-        return false;
+    match beside(path, &mut [0; NAME]) {
+        Some(name) => replace(rt, err, path, name, words),
+        None => false,
     }
-    replace(rt, err, path, &name[0..n], words)
 }

@@ -1,9 +1,9 @@
-// How each command is written, once: a line for each, by whose first word the command is known. And how many words
-// and numbers go with it.
-use crate::words::{LINE, count, is, word};
+// The commands: how each is written, once, a line for each, by whose first word it is known; and how many words go
+// with it.
 use std::io;
+use std::ops::RangeInclusive;
 
-pub const USAGE: [u8; 1758] = *b"
+const USAGE: &str = "
  sample                         a tour, on pools in memory
  make FILE PAGES [map|set]      a new pool of 1 to 4096 pages in a new file; a map where it is not said
  copy FILE TO                   the pool into a new file, its cursor closed
@@ -28,105 +28,111 @@ pub const USAGE: [u8; 1758] = *b"
  close FILE                     the cursor; then the map can be changed again
  scrub FILE TICK STEPS          from TICK on, so many steps; the file is not changed";
 
-const ABOUT: [u8; 366] = *b"
+const ABOUT: &str = "
 
 A pool in a file: a map from clock tick to frame place, or a set of ticks. A tick is a key, a place is its value; both are numbers
 from 0 to 18446744073709551615. What a command answers goes to standard output, a refusal and its number too; what cannot be
 carried out goes to standard error. The exit status is 0 in any case. To see it all at work: pontoon sample
 ";
 
-// The commands, by the numbers of their lines; what is none has the number after the last.
-pub const SAMPLE: usize = 0;
+// The commands, by their first word.
+#[derive(Clone, Copy, Debug, PartialEq, Eq)]
+pub enum Verb {
+    Sample,
+    Make,
+    Copy,
+    Clear,
+    Check,
+    Show,
+    Stats,
+    Insert,
+    Get,
+    Replace,
+    Remove,
+    List,
+    Open,
+    Next,
+    Prev,
+    PeekNext,
+    PeekPrev,
+    WriteNext,
+    WritePrev,
+    InsertAfter,
+    RemoveNext,
+    Close,
+    Scrub,
+}
 
-pub const MAKE: usize = 1;
+impl Verb {
+    pub fn of(name: &[u8]) -> Option<Verb> {
+        Some(match name {
+            b"sample" => Verb::Sample,
+            b"make" => Verb::Make,
+            b"copy" => Verb::Copy,
+            b"clear" => Verb::Clear,
+            b"check" => Verb::Check,
+            b"show" => Verb::Show,
+            b"stats" => Verb::Stats,
+            b"insert" => Verb::Insert,
+            b"get" => Verb::Get,
+            b"replace" => Verb::Replace,
+            b"remove" => Verb::Remove,
+            b"list" => Verb::List,
+            b"open" => Verb::Open,
+            b"next" => Verb::Next,
+            b"prev" => Verb::Prev,
+            b"peek-next" => Verb::PeekNext,
+            b"peek-prev" => Verb::PeekPrev,
+            b"write-next" => Verb::WriteNext,
+            b"write-prev" => Verb::WritePrev,
+            b"insert-after" => Verb::InsertAfter,
+            b"remove-next" => Verb::RemoveNext,
+            b"close" => Verb::Close,
+            b"scrub" => Verb::Scrub,
+            _ => return None,
+        })
+    }
 
-pub const COPY: usize = 2;
-
-pub const CLEAR: usize = 3;
-
-pub const CHECK: usize = 4;
-
-pub const SHOW: usize = 5;
-
-pub const STATS: usize = 6;
-
-pub const INSERT: usize = 7;
-
-pub const GET: usize = 8;
-
-pub const REPLACE: usize = 9;
-
-pub const REMOVE: usize = 10;
-
-pub const LIST: usize = 11;
-
-pub const OPEN: usize = 12;
-
-pub const NEXT: usize = 13;
-
-pub const PREV: usize = 14;
-
-pub const PEEK_NEXT: usize = 15;
-
-pub const PEEK_PREV: usize = 16;
-
-pub const WRITE_NEXT: usize = 17;
-
-pub const WRITE_PREV: usize = 18;
-
-pub const INSERT_AFTER: usize = 19;
-
-pub const REMOVE_NEXT: usize = 20;
-
-pub const CLOSE: usize = 21;
-
-pub const SCRUB: usize = 22;
-
-pub const UNKNOWN: usize = 23;
-
-// The fewest words of a command, its own among them, and the most; and how many of those after the file's name are
-// numbers and nothing else.
-#[derive(Clone, Copy)]
-pub struct Shape(pub usize, pub usize, pub usize);
-
-pub fn shape_of(verb: usize) -> Shape {
-    match verb {
-        SAMPLE => Shape(1, 1, 0),
-        MAKE => Shape(3, 4, 1),
-        COPY => Shape(3, 3, 0),
-        INSERT => Shape(3, 4, 2),
-        GET | REMOVE | WRITE_NEXT | WRITE_PREV => Shape(3, 3, 1),
-        REPLACE | INSERT_AFTER | SCRUB => Shape(4, 4, 2),
-        LIST => Shape(2, 4, 0),
-        OPEN => Shape(3, 5, 0),
-        UNKNOWN => Shape(1, LINE, 0),
-        _ => Shape(2, 2, 0),
+    // How many words a command has, its own among them.
+    pub fn words(self) -> RangeInclusive<usize> {
+        match self {
+            Verb::Sample => 1..=1,
+            Verb::Make | Verb::Insert => 3..=4,
+            Verb::Copy | Verb::Get | Verb::Remove | Verb::WriteNext | Verb::WritePrev => 3..=3,
+            Verb::Replace | Verb::InsertAfter | Verb::Scrub => 4..=4,
+            Verb::List => 2..=4,
+            Verb::Open => 3..=5,
+            Verb::Clear
+            | Verb::Check
+            | Verb::Show
+            | Verb::Stats
+            | Verb::Next
+            | Verb::Prev
+            | Verb::PeekNext
+            | Verb::PeekPrev
+            | Verb::RemoveNext
+            | Verb::Close => 2..=2,
+        }
     }
 }
 
-// The number of a command's line.
-pub fn row(usage: &[u8], name: &[u8]) -> usize {
-    let n = count(usage);
-    let mut i: usize = 0;
-    while i < n {
-        if is(word(word(usage, i), 0), name) {
-            return i;
-        }
-        i += 1;
-    }
-    n
+// Whether a line of the usage is that of a command.
+fn is_of(line: &str, name: &[u8]) -> bool {
+    line.split(' ')
+        .nth(1)
+        .is_some_and(|word| word.as_bytes() == name)
 }
 
 // How a command is written.
-pub fn print(out: &impl Print, usage: &[u8], name: &[u8]) -> io::Result<()> {
-    out.write_all(b"usage: pontoon")?;
-    out.write_all(word(usage, row(usage, name)))?;
-    out.write_all(b"\n")
+pub fn print(out: &impl Print, name: &[u8]) -> io::Result<()> {
+    let line = USAGE
+        .lines()
+        .find(|line| is_of(line, name))
+        .unwrap_or_default();
+    println!(out; "usage: pontoon{line}")
 }
 
 // How all are.
-pub fn help(rt: &impl Print, usage: &[u8]) -> io::Result<()> {
-    rt.write_all(b"usage: pontoon")?;
-    rt.write_all(usage)?;
-    rt.write_all(&ABOUT)
+pub fn help(rt: &impl Print) -> io::Result<()> {
+    print!(rt; "usage: pontoon{USAGE}{ABOUT}")
 }

@@ -1,8 +1,8 @@
 // Our answers in the list's words, and whether a line tells the same. A refusal, or a line that is not understood, is
 // never the same.
-use crate::text::{Word, byte, end, number, same};
+use crate::text::{cut, is_end, past, word};
 
-#[derive(Clone, Copy)]
+#[derive(Drop)]
 pub enum Ours {
     // Of a call that answers nothing.
     Done,
@@ -14,54 +14,56 @@ pub enum Ours {
     // Insert after's `ok` and `no`.
     Fits,
     Misplaced,
-    // A list that is std's, or isn't.
-    Listed(bool),
+    // How many entries a list has, and then each of its numbers.
+    Listed(Vec<u64>),
     // A refusal, or a line that is not understood.
     Wrong,
 }
 
-// Past every place of the list.
-const NOWHERE: usize = 18446744073709551615;
-
-// The place after a number, where it is the next word; else nowhere.
-pub fn past(text: &[u8], at: usize, n: u64) -> usize {
-    if byte(text, at) != b' ' {
-        return NOWHERE;
+impl From<bool> for Ours {
+    fn from(yes: bool) -> Ours {
+        Ours::One(u64::from(yes))
     }
-    let word = at.wrapping_add(1);
-    let Word::Number(m) = number(text, word) else {
-        return NOWHERE;
-    };
-    if m != n {
-        return NOWHERE;
-    }
-    end(text, word, b' ')
 }
 
-// Whether the line ends at a place.
-pub fn ended(text: &[u8], at: usize) -> bool {
-    byte(text, at) == b'\n'
-}
-
-// Whether the last word of the line is this one.
-fn last(text: &[u8], at: usize, word: &[u8]) -> bool {
-    let next = at.wrapping_add(1);
-    if !same(text, next, word, 0) {
-        return false;
+impl From<Option<u64>> for Ours {
+    fn from(value: Option<u64>) -> Ours {
+        value.map_or(Ours::Absent, Ours::One)
     }
-    ended(text, end(text, next, b' '))
 }
 
-// Whether the line has this answer from a place on.
-pub fn tells(text: &[u8], at: usize, ours: Ours) -> bool {
-    match ours {
-        Ours::Done => ended(text, at),
-        Ours::Absent => last(text, at, b"-"),
-        Ours::One(n) => ended(text, past(text, at, n)),
-        Ours::Entry(key, value) => ended(text, past(text, past(text, at, key), value)),
-        Ours::Fits => last(text, at, b"ok"),
-        Ours::Misplaced => last(text, at, b"no"),
-        Ours::Listed(right) => right,
-        Ours::Wrong => false,
+// Whether the last word of the line is this one. The byte before a word is not looked at.
+fn is_last(answer: &[u8], last: &[u8]) -> bool {
+    match answer.split_first() {
+        Some((_, text)) => word(text) == last && is_end(cut(text).1),
+        None => false,
+    }
+}
+
+// Whether the numbers stand there, and then the line ends.
+fn are_told(answer: &[u8], numbers: &[u64]) -> bool {
+    let mut rest = answer;
+    for n in numbers {
+        match past(rest, *n) {
+            Some(after) => rest = after,
+            None => return false,
+        }
+    }
+    is_end(rest)
+}
+
+impl Ours {
+    // Whether a line's answer is this one.
+    pub fn is_told(&self, answer: &[u8]) -> bool {
+        match self {
+            Ours::Done => is_end(answer),
+            Ours::Absent => is_last(answer, b"-"),
+            Ours::One(n) => are_told(answer, &[*n]),
+            Ours::Entry(key, value) => are_told(answer, &[*key, *value]),
+            Ours::Fits => is_last(answer, b"ok"),
+            Ours::Misplaced => is_last(answer, b"no"),
+            Ours::Listed(numbers) => are_told(answer, numbers),
+            Ours::Wrong => false,
+        }
     }
 }

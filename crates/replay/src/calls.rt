@@ -1,224 +1,109 @@
 // The calls of the list, by name, each made on the pool. How many numbers a line gives comes first; of those with one
 // number a set has its own.
 use crate::answer::Ours;
-use crate::line::Line;
-use crate::lists;
-use crate::text::which;
-use cursor::opening::Opened;
-use cursor::{Step, Wrote};
-use map::pool::{Answer, Counted, Empty};
-use map::refusal::MAP;
-use map::{Contained, Got, Inserted, Removed, Replaced};
+use crate::lists::{self, Bounds};
+use map::refusal::{MAP, Refusal};
 use model::KIND;
-use table::value_at;
+use std::alloc::{AllocError, Global};
+use table::word_at;
 
-// ---- answers
+fn step(pool: &mut [u64], name: &[u8]) -> Result<Ours, Refusal> {
+    let entry = match name {
+        b"next" => cursor::next(pool)?,
+        b"prev" => cursor::prev(pool)?,
+        b"peek-next" => cursor::peek_next(pool)?,
+        b"peek-prev" => cursor::peek_prev(pool)?,
+        b"remove-next" => cursor::edit::remove_next(pool)?,
+        _ => return Ok(Ours::Wrong),
+    };
+    Ok(entry.map_or(Ours::Absent, |entry| {
+        Ours::Entry(entry.key, entry.value)
+    }))
+}
 
-fn inserted(answer: Inserted) -> Ours {
-    match answer {
-        Inserted::New => Ours::Absent,
-        Inserted::Before(value) => Ours::One(value),
-        Inserted::Refused(_) => Ours::Wrong,
+fn given_none(pool: &mut [u64], name: &[u8]) -> Result<Ours, Refusal> {
+    match name {
+        b"len" => map::pool::count(pool).map(Ours::One),
+        b"is-empty" => map::pool::is_empty(pool).map(Ours::from),
+        b"clear" => map::pool::clear(pool).map(|()| Ours::Done),
+        b"close" => cursor::close(pool).map(|()| Ours::Done),
+        _ => step(pool, name),
     }
 }
 
-fn got(answer: Got) -> Ours {
-    match answer {
-        Got::Value(value, _) => Ours::One(value),
-        Got::Absent(_) => Ours::Absent,
-        Got::Refused(_) => Ours::Wrong,
+fn given_one(pool: &mut [u64], name: &[u8], a: u64) -> Result<Ours, Refusal> {
+    match name {
+        b"get" => map::get(pool, a).map(|got| Ours::from(got.value)),
+        b"contains" => map::contains(pool, a).map(|seen| Ours::from(seen.present)),
+        b"remove" => map::remove(pool, a).map(Ours::from),
+        b"write-next" => cursor::write_next(pool, a).map(Ours::from),
+        b"write-prev" => cursor::write_prev(pool, a).map(Ours::from),
+        _ => Ok(Ours::Wrong),
     }
 }
 
-fn contained(answer: Contained) -> Ours {
-    match answer {
-        Contained::Present(_) => Ours::One(1),
-        Contained::Absent(_) => Ours::One(0),
-        Contained::Refused(_) => Ours::Wrong,
+fn set_given_one(pool: &mut [u64], name: &[u8], key: u64) -> Result<Ours, Refusal> {
+    match name {
+        b"insert" => map::set::insert(pool, key).map(Ours::from),
+        b"get" => map::set::get(pool, key).map(|got| Ours::from(got.value)),
+        b"contains" => map::set::contains(pool, key).map(|seen| Ours::from(seen.present)),
+        b"remove" => map::set::remove(pool, key).map(Ours::from),
+        _ => Ok(Ours::Wrong),
     }
 }
 
-fn replaced(answer: Replaced) -> Ours {
-    match answer {
-        Replaced::Before(value) => Ours::One(value),
-        Replaced::Absent => Ours::Absent,
-        Replaced::Refused(_) => Ours::Wrong,
+fn insert_after(pool: &mut [u64], key: u64, value: u64) -> Result<Ours, Refusal> {
+    match cursor::edit::insert_after(pool, key, value) {
+        Ok(()) => Ok(Ours::Fits),
+        Err(Refusal::Misplaced) => Ok(Ours::Misplaced),
+        Err(why) => Err(why),
     }
 }
 
-fn removed(answer: Removed) -> Ours {
-    match answer {
-        Removed::Value(value) => Ours::One(value),
-        Removed::Absent => Ours::Absent,
-        Removed::Refused(_) => Ours::Wrong,
-    }
-}
-
-fn set_inserted(answer: map::set::Inserted) -> Ours {
-    match answer {
-        map::set::Inserted::New => Ours::One(1),
-        map::set::Inserted::Present => Ours::One(0),
-        map::set::Inserted::Refused(_) => Ours::Wrong,
-    }
-}
-
-fn set_got(answer: map::set::Got) -> Ours {
-    match answer {
-        map::set::Got::Key(key, _) => Ours::One(key),
-        map::set::Got::Absent(_) => Ours::Absent,
-        map::set::Got::Refused(_) => Ours::Wrong,
-    }
-}
-
-fn set_removed(answer: map::set::Removed) -> Ours {
-    match answer {
-        map::set::Removed::Present => Ours::One(1),
-        map::set::Removed::Absent => Ours::One(0),
-        map::set::Removed::Refused(_) => Ours::Wrong,
-    }
-}
-
-fn counted(answer: Counted) -> Ours {
-    match answer {
-        Counted::Entries(n) => Ours::One(n),
-        Counted::Refused(_) => Ours::Wrong,
-    }
-}
-
-fn empty(answer: Empty) -> Ours {
-    match answer {
-        Empty::Yes => Ours::One(1),
-        Empty::No => Ours::One(0),
-        Empty::Refused(_) => Ours::Wrong,
-    }
-}
-
-fn done(answer: Answer) -> Ours {
-    match answer {
-        Answer::Done => Ours::Done,
-        Answer::Refused(_) => Ours::Wrong,
-    }
-}
-
-fn opened(answer: Opened) -> Ours {
-    match answer {
-        Opened::Read(_) => Ours::Done,
-        Opened::Refused(_) => Ours::Wrong,
-    }
-}
-
-fn stepped(answer: Step) -> Ours {
-    match answer {
-        Step::Entry(key, value) => Ours::Entry(key, value),
-        Step::End => Ours::Absent,
-        Step::Refused(_) => Ours::Wrong,
-    }
-}
-
-fn wrote(answer: Wrote) -> Ours {
-    match answer {
-        Wrote::Before(value) => Ours::One(value),
-        Wrote::End => Ours::Absent,
-        Wrote::Refused(_) => Ours::Wrong,
-    }
-}
-
-fn fits(answer: Answer) -> Ours {
-    match answer {
-        Answer::Done => Ours::Fits,
-        Answer::Refused(why) => {
-            if map::refusal::number(why) == 6 {
-                return Ours::Misplaced;
-            }
-            Ours::Wrong
-        }
-    }
-}
-
-// ---- by name, and by how many numbers are given
-
-fn step(pool: &mut [u64], text: &[u8], name: usize) -> Ours {
-    match which(text, name, b"next prev peek-next peek-prev remove-next") {
-        0 => stepped(cursor::next(pool)),
-        1 => stepped(cursor::prev(pool)),
-        2 => stepped(cursor::peek_next(pool)),
-        3 => stepped(cursor::peek_prev(pool)),
-        4 => stepped(cursor::edit::remove_next(pool)),
-        _ => Ours::Wrong,
-    }
-}
-
-fn given_none(pool: &mut [u64], text: &[u8], name: usize) -> Ours {
-    match which(text, name, b"len is-empty clear close") {
-        0 => counted(map::pool::count(pool)),
-        1 => empty(map::pool::is_empty(pool)),
-        2 => done(map::pool::clear(pool)),
-        3 => done(cursor::close(pool)),
-        _ => step(pool, text, name),
-    }
-}
-
-fn given_one(pool: &mut [u64], text: &[u8], name: usize, a: u64) -> Ours {
-    match which(text, name, b"get contains remove write-next write-prev") {
-        0 => got(map::get(pool, a)),
-        1 => contained(map::contains(pool, a)),
-        2 => removed(map::remove(pool, a)),
-        3 => wrote(cursor::write_next(pool, a)),
-        4 => wrote(cursor::write_prev(pool, a)),
-        _ => Ours::Wrong,
-    }
-}
-
-fn given_two(pool: &mut [u64], text: &[u8], name: usize, a: u64, b: u64) -> Ours {
-    match which(text, name, b"insert replace insert-after lower upper") {
-        0 => inserted(map::insert(pool, a, b)),
-        1 => replaced(map::replace(pool, a, b)),
-        2 => fits(cursor::edit::insert_after(pool, a, b)),
-        3 => opened(cursor::opening::lower(pool, a, b)),
-        4 => opened(cursor::opening::upper(pool, a, b)),
-        _ => Ours::Wrong,
+fn given_two(pool: &mut [u64], name: &[u8], a: u64, b: u64) -> Result<Ours, Refusal> {
+    match name {
+        b"insert" => map::insert(pool, a, b).map(Ours::from),
+        b"replace" => map::replace(pool, a, b).map(Ours::from),
+        b"insert-after" => insert_after(pool, a, b),
+        b"lower" => cursor::opening::lower(pool, a, b).map(|_| Ours::Done),
+        b"upper" => cursor::opening::upper(pool, a, b).map(|_| Ours::Done),
+        _ => Ok(Ours::Wrong),
     }
 }
 
 // A set's `range` lists its keys.
-fn given_bounds(pool: &[u64], text: &[u8], l: Line, kind: u64) -> Ours {
-    match which(text, l.name, b"range keys values") {
-        0 => {
-            if kind == MAP {
-                return lists::entries(pool, text, l);
-            }
-            lists::set_keys(pool, text, l)
-        }
-        1 => lists::keys(pool, text, l),
-        2 => lists::values(pool, text, l),
-        _ => Ours::Wrong,
+fn given_bounds(alloc: Global, pool: &[u64], name: &[u8], b: Bounds) -> Result<Ours, AllocError> {
+    match name {
+        b"range" if word_at(pool, KIND) == MAP => lists::entries(alloc, pool, b),
+        b"range" => lists::set_keys(alloc, pool, b),
+        b"keys" => lists::keys(alloc, pool, b),
+        b"values" => lists::values(alloc, pool, b),
+        _ => Ok(Ours::Wrong),
     }
 }
 
-fn set_given_one(pool: &mut [u64], text: &[u8], name: usize, key: u64) -> Ours {
-    match which(text, name, b"insert get contains remove") {
-        0 => set_inserted(map::set::insert(pool, key)),
-        1 => set_got(map::set::get(pool, key)),
-        2 => contained(map::set::contains(pool, key)),
-        3 => set_removed(map::set::remove(pool, key)),
-        _ => Ours::Wrong,
-    }
-}
-
-// What a line's call answers.
-pub fn call(pool: &mut [u64], text: &[u8], l: Line) -> Ours {
-    let kind = value_at(pool, KIND);
-    let count = l.count;
-    match count {
-        0 => given_none(pool, text, l.name),
-        1 => {
-            if kind == MAP {
-                return given_one(pool, text, l.name, l.a);
-            }
-            set_given_one(pool, text, l.name, l.a)
+// What a call answers, by its name and the numbers that it is given.
+pub fn call(
+    alloc: Global,
+    pool: &mut [u64],
+    name: &[u8],
+    numbers: &[u64],
+) -> Result<Ours, AllocError> {
+    let answer = match numbers {
+        [] => given_none(pool, name),
+        [a] if word_at(pool, KIND) == MAP => given_one(pool, name, *a),
+        [key] => set_given_one(pool, name, *key),
+        [a, b] => given_two(pool, name, *a, *b),
+        [lower, from, upper, to] => {
+            let bounds = Bounds {
+                lower: *lower,
+                from: *from,
+                upper: *upper,
+                to: *to,
+            };
+            return given_bounds(alloc, pool, name, bounds);
         }
-        2 => given_two(pool, text, l.name, l.a, l.b),
-        4 => given_bounds(pool, text, l, kind),
-        _ => Ours::Wrong,
-    }
+        _ => Ok(Ours::Wrong),
+    };
+    Ok(answer.unwrap_or(Ours::Wrong))
 }

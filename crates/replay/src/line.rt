@@ -1,94 +1,66 @@
-// A line of the list: the place of its call's name, the numbers that the call is given, and the place where std's
-// answer begins. A bound's kind is document 01's number, and Unbounded has 0 for its key.
-use crate::text::{Word, byte, end, number, same, which};
+// A line of the list: its call's name, the numbers that the call is given, and std's answer with what is left of the
+// list. A bound's kind is the number that the library's calls take, and Unbounded has 0 for its key.
+use crate::text::{cut, is_end, number, word};
+use std::alloc::{AllocError, Global};
 
-#[derive(Clone, Copy)]
-pub struct Line {
-    pub name: usize,
-    pub at: usize,
-    pub count: u64,
-    pub a: u64,
-    pub b: u64,
-    pub c: u64,
-    pub d: u64,
+// Words before the colon: no call is given more.
+const MOST: u8 = 4;
+
+#[derive(Drop)]
+pub struct Line<'a> {
+    pub numbers: Vec<u64>,
+    pub answer: &'a [u8],
 }
 
-// No call is given so many numbers: that of a line that is not understood.
-const UNREAD: u64 = 99;
-
-impl Line {
-    fn with(self, n: u64) -> Line {
-        let mut l = self;
-        let count = self.count;
-        match count {
-            0 => l.a = n,
-            1 => l.b = n,
-            2 => l.c = n,
-            3.. => l.d = n,
+impl<'a> Line<'a> {
+    // What stands after a call's name; none where it is not understood.
+    pub fn read(alloc: Global, text: &'a [u8]) -> Result<Option<Line<'a>>, AllocError> {
+        let mut numbers = Vec::new(alloc);
+        let mut rest = text;
+        for _ in 0..MOST {
+            let Some(given) = rest.strip_prefix(b" ") else {
+                break;
+            };
+            if given.first() == Some(&b':') {
+                break;
+            }
+            if !add(&mut numbers, word(given))? {
+                return Ok(None);
+            }
+            rest = cut(given).1;
         }
-        l.count = count.wrapping_add(1);
-        l
-    }
-
-    fn unread(self) -> Line {
-        let mut l = self;
-        l.count = UNREAD;
-        l
-    }
-
-    // A word that is no number: a bound's kind.
-    fn kind(self, text: &[u8], at: usize) -> Line {
-        let kind = which(text, at, b"i e u");
-        match kind {
-            0 | 1 => self.with(kind),
-            2 => self.with(2).with(0),
-            _ => self.unread(),
+        match answer(rest) {
+            Some(answer) => Ok(Some(Line { numbers, answer })),
+            None => Ok(None),
         }
-    }
-
-    // The next word, up to the colon.
-    fn word(self, text: &[u8]) -> Line {
-        let at = self.at;
-        if byte(text, at) != b' ' {
-            return self;
-        }
-        let word = at.wrapping_add(1);
-        if byte(text, word) == b':' {
-            return self;
-        }
-        let mut l = self;
-        l.at = end(text, word, b' ');
-        match number(text, word) {
-            Word::Number(n) => l.with(n),
-            Word::Other => l.kind(text, word),
-        }
-    }
-
-    // Past the colon, if there is an answer.
-    fn colon(self, text: &[u8]) -> Line {
-        let at = self.at;
-        if byte(text, at) == b'\n' {
-            return self;
-        }
-        if !same(text, at.wrapping_add(1), b":", 0) {
-            return self.unread();
-        }
-        let mut l = self;
-        l.at = at.wrapping_add(2);
-        l
     }
 }
 
-// The line that begins at a place.
-pub fn read(text: &[u8], at: usize) -> Line {
-    let line = Line {
-        name: at,
-        at: end(text, at, b' '),
-        count: 0,
-        a: 0,
-        b: 0,
-        c: 0,
-        d: 0,
-    };
-    line.word(text).word(text).word(text).word(text).colon(text)
+// A number, or a bound's kind by its letter. Whether the word is one of these.
+fn add(numbers: &mut Vec<u64>, word: &[u8]) -> Result<bool, AllocError> {
+    match word {
+        b"i" => numbers.push(0)?,
+        b"e" => numbers.push(1)?,
+        b"u" => {
+            numbers.push(2)?;
+            numbers.push(0)?;
+        }
+        _ => match number(word) {
+            Some(n) => numbers.push(n)?,
+            None => return Ok(false),
+        },
+    }
+    Ok(true)
+}
+
+// What is left after the colon; from the line's end on, where there is none.
+fn answer(text: &[u8]) -> Option<&[u8]> {
+    if is_end(text) {
+        return Some(text);
+    }
+    let colon = text.strip_prefix(b" ")?;
+    match word(colon) {
+        b":" => colon.strip_prefix(b":"),
+        _ => None,
+    }
 }

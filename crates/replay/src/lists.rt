@@ -1,62 +1,75 @@
-// Lists: how many entries there are between two bounds, and each, compared with the line from where its answer
-// begins. A map's list is of pairs, of keys or of values; a set's is of keys.
-use crate::answer::{Ours, ended, past};
-use crate::line::Line;
-use map::list::Listed;
-use table::value_at;
+// Lists: how many entries there are between two bounds, and each. A map's list is of pairs, of keys or of values; a
+// set's is of keys.
+use crate::answer::Ours;
+use map::refusal::Refusal;
+use std::alloc::{AllocError, Global};
 
 // Words of a column: no list of std's is so long.
 const ROOM: usize = 1024;
 
-// One column, or two as pairs.
-fn tells(text: &[u8], at: usize, n: usize, first: &[u64], second: &[u64], pairs: bool) -> bool {
-    let mut place = past(text, at, n as u64);
-    let mut i: usize = 0;
-    while i < n {
-        place = past(text, place, value_at(first, i));
-        if pairs {
-            place = past(text, place, value_at(second, i));
-        }
-        i += 1;
-    }
-    ended(text, place)
+// Two bounds: their kinds, in the library's numbers, and their keys.
+#[derive(Clone, Copy)]
+pub struct Bounds {
+    pub lower: u64,
+    pub from: u64,
+    pub upper: u64,
+    pub to: u64,
 }
 
-fn told(
-    answer: Listed,
-    text: &[u8],
-    at: usize,
-    first: &[u64],
-    second: &[u64],
-    pairs: bool,
-) -> Ours {
-    match answer {
-        Listed::Wrote(n) => Ours::Listed(tells(text, at, n, first, second, pairs)),
-        Listed::Refused(_) => Ours::Wrong,
+// As many words of a column as the list wrote.
+fn column(
+    alloc: Global,
+    answer: Result<usize, Refusal>,
+    words: &[u64],
+) -> Result<Ours, AllocError> {
+    let Ok(n) = answer else {
+        return Ok(Ours::Wrong);
+    };
+    let mut numbers = vec![in alloc; n as u64]?;
+    for word in words.iter().take(n) {
+        numbers.push(*word)?;
     }
+    Ok(Ours::Listed(numbers))
 }
 
-pub fn entries(pool: &[u64], text: &[u8], l: Line) -> Ours {
+fn pairs(
+    alloc: Global,
+    answer: Result<usize, Refusal>,
+    keys: &[u64],
+    values: &[u64],
+) -> Result<Ours, AllocError> {
+    let Ok(n) = answer else {
+        return Ok(Ours::Wrong);
+    };
+    let mut numbers = vec![in alloc; n as u64]?;
+    for (key, value) in keys.iter().zip(values).take(n) {
+        numbers.push(*key)?;
+        numbers.push(*value)?;
+    }
+    Ok(Ours::Listed(numbers))
+}
+
+pub fn entries(alloc: Global, pool: &[u64], b: Bounds) -> Result<Ours, AllocError> {
     let mut keys = [0u64; ROOM];
     let mut values = [0u64; ROOM];
-    let answer = map::list::entries(pool, l.a, l.b, l.c, l.d, &mut keys, &mut values);
-    told(answer, text, l.at, &keys, &values, true)
+    let answer = map::list::entries(pool, b.lower, b.from, b.upper, b.to, &mut keys, &mut values);
+    pairs(alloc, answer, &keys, &values)
 }
 
-pub fn keys(pool: &[u64], text: &[u8], l: Line) -> Ours {
+pub fn keys(alloc: Global, pool: &[u64], b: Bounds) -> Result<Ours, AllocError> {
     let mut keys = [0u64; ROOM];
-    let answer = map::list::keys(pool, l.a, l.b, l.c, l.d, &mut keys);
-    told(answer, text, l.at, &keys, &keys, false)
+    let answer = map::list::keys(pool, b.lower, b.from, b.upper, b.to, &mut keys);
+    column(alloc, answer, &keys)
 }
 
-pub fn values(pool: &[u64], text: &[u8], l: Line) -> Ours {
+pub fn values(alloc: Global, pool: &[u64], b: Bounds) -> Result<Ours, AllocError> {
     let mut values = [0u64; ROOM];
-    let answer = map::list::values(pool, l.a, l.b, l.c, l.d, &mut values);
-    told(answer, text, l.at, &values, &values, false)
+    let answer = map::list::values(pool, b.lower, b.from, b.upper, b.to, &mut values);
+    column(alloc, answer, &values)
 }
 
-pub fn set_keys(pool: &[u64], text: &[u8], l: Line) -> Ours {
+pub fn set_keys(alloc: Global, pool: &[u64], b: Bounds) -> Result<Ours, AllocError> {
     let mut keys = [0u64; ROOM];
-    let answer = map::set::list(pool, l.a, l.b, l.c, l.d, &mut keys);
-    told(answer, text, l.at, &keys, &keys, false)
+    let answer = map::set::list(pool, b.lower, b.from, b.upper, b.to, &mut keys);
+    column(alloc, answer, &keys)
 }

@@ -11,9 +11,10 @@ pub mod lists;
 pub mod tally;
 pub mod text;
 
-use crate::tally::FIGURES;
-use crate::text::{end, which};
-use map::refusal::SET;
+use crate::line::Line;
+use crate::tally::Tally;
+use map::refusal::{MAP, SET};
+use std::alloc::{AllocError, Global};
 use std::io;
 use table::UNTOUCHED;
 
@@ -22,56 +23,68 @@ const MOST: usize = 163840;
 
 const WORDS: usize = 8192;
 
-// A line: a new map or set, or a call.
-fn replay_line(
+// Whether the answer to a call is std's. The list is given from what stands after the call's name on.
+fn is_right(alloc: Global, pool: &mut [u64], name: &[u8], text: &[u8]) -> Result<bool, AllocError> {
+    let Some(line) = Line::read(alloc, text)? else {
+        return Ok(false);
+    };
+    let ours = calls::call(alloc, pool, text::word(name), &line.numbers)?;
+    Ok(ours.is_told(line.answer))
+}
+
+// A new map or set, whose line is the title of a section.
+fn begin(
     rt: &impl Print,
     pool: &mut [u64],
-    text: &[u8],
-    at: usize,
-    tally: &mut [u64; FIGURES],
+    title: &[u8],
+    kind: u64,
+    tally: &mut Tally,
 ) -> io::Result<()> {
-    let kind = which(text, at, b"map set");
-    if kind <= SET {
-        tally::section(rt, text, at, tally)?;
-        map::pool::make(pool, kind);
-        return Ok(());
-    }
-    let line = line::read(text, at);
-    let ours = calls::call(pool, text, line);
-    tally::count(text, at, answer::tells(text, line.at, ours), tally);
-    tally::look(pool, tally);
+    tally.end_section(rt)?;
+    rt.write_all(title)?;
+    rt.write_all(b"\n")?;
+    let _ = map::pool::make(pool, kind);
     Ok(())
+}
+
+// The line that the text begins with: a new map or set, or a call.
+fn replay_line<'a>(
+    rt: &(impl Alloc<A = Global> + Print),
+    pool: &mut [u64],
+    text: &'a [u8],
+    tally: &mut Tally<'a>,
+) -> io::Result<()> {
+    match text::word(text) {
+        b"map" => begin(rt, pool, text::line(text), MAP, tally),
+        b"set" => begin(rt, pool, text::line(text), SET, tally),
+        _ => {
+            let (name, rest) = text::cut(text);
+            tally.count(name, is_right(rt.alloc(), pool, name, rest)?)?;
+            tally.look(pool);
+            Ok(())
+        }
+    }
 }
 
 // Every line.
-fn replay(
-    rt: &impl Print,
-    pool: &mut [u64],
-    text: &[u8],
-    tally: &mut [u64; FIGURES],
-) -> io::Result<()> {
-    let mut at: usize = 0;
-    while at < text.len() {
-        replay_line(rt, pool, text, at, tally)?;
-        let newline = end(text, at, b'\n');
-        if text.len() <= newline {
-            return Ok(());
-        }
-        at = newline + 1;
-    }
-    Ok(())
-}
-
-fn replay_all(rt: &impl Print, text: &[u8]) -> io::Result<()> {
+fn replay(rt: &(impl Alloc<A = Global> + Print), text: &[u8]) -> io::Result<()> {
     let mut pool = [UNTOUCHED; WORDS];
-    let mut tally = [0u64; FIGURES];
-    replay(rt, &mut pool, text, &mut tally)?;
-    tally::report(rt, text, &mut tally)
+    let mut tally = Tally::new(rt.alloc());
+    let mut rest = text;
+    while !rest.is_empty() {
+        replay_line(rt, &mut pool, rest, &mut tally)?;
+        let Some(newline) = rest.iter().position(|b| *b == b'\n') else {
+            break;
+        };
+        rest = &rest[newline + 1..];
+    }
+    tally.end_section(rt)?;
+    tally.report(rt)
 }
 
 fn main(rt: HostRuntime) -> io::Result<()> {
     let mut space = [0u8; MOST];
     let mut input = rt.reader();
     let n = table::read_full(&mut input, &mut space)?;
-    replay_all(&rt, &space[..n])
+    replay(&rt, &space[..n])
 }

@@ -1,16 +1,16 @@
-// What the programs share. The table: a place for every key, 0 where it has none. An ordered map by itself, for its
-// places are in key order. A place past its end has no entry, and nothing is stored there. Numbers at random
-// (`random`), texts printed with numbers, and input read into bytes that are there.
+// What the programs share. The table: a place for every key, an ordered map by itself, for its places are in key order.
+// Numbers at random (`random`), and input read into bytes that are there.
 #![tactic(auto)]
 
-ghost use Rattle.std.specs.Prelude.{◌≤◌, length, IfOk};
+ghost use Rattle.std.specs.Prelude.{◌≡◌, ◌<◌, ◌≤◌, length, IfOk, IfSome};
 
 pub mod random;
 
+use std::alloc::{AllocError, Global};
 use std::io;
 use std::io::Read;
 
-// Places of the table.
+// The most places of a table.
 pub const PLACES: usize = 4096;
 
 // What a word holds where no call has written: no key of the table and no value of a trial.
@@ -18,126 +18,102 @@ pub const UNTOUCHED: u64 = 77777777777;
 
 // A key for each place, rising; the last is 2^64 - 1.
 pub fn key_of(place: usize) -> u64 {
-    ((place as u64) << 52) | 4503599627370495
+    ((place as u64) << 52) | (u64::MAX >> 12)
 }
 
-pub fn value_at(table: &[u64], place: usize) -> u64 {
-    if place < table.len() {
-        return table[place];
+// The word at a place; 0 past the end.
+pub fn word_at(words: &[u64], place: usize) -> u64 {
+    words.get(place).copied().unwrap_or_default()
+}
+
+// A place of the table that has an entry, and the value there.
+#[derive(Clone, Copy)]
+pub struct Held {
+    pub place: usize,
+    pub value: u64,
+}
+
+impl Held {
+    pub fn key(self) -> u64 {
+        key_of(self.place)
     }
-    0
-}
 
-pub fn put(table: &mut [u64], place: usize, value: u64) {
-    if place < table.len() {
-        table[place] = value;
-    }
-}
-
-// The place after a place.
-pub fn after(place: usize) -> usize {
-    if place < PLACES {
-        return place + 1;
-    }
-    place
-}
-
-// The first place from `place` on that has an entry, or the table's end.
-pub fn place_from(table: &[u64], place: usize) -> usize
-    ensures { place ≤ result }
-{
-    let mut i = place;
-    while i < table.len() {
-        if table[i] != 0 {
-            return i;
-        }
-        i += 1;
-    }
-    i
-}
-
-// One more than the last place before `place` that has an entry; 0 where there is none.
-pub fn place_before(table: &[u64], place: usize) -> usize
-    ensures { result ≤ place }
-{
-    let mut i = place;
-    while 0 < i {
-        if value_at(table, i - 1) != 0 {
-            return i;
-        }
-        i -= 1;
-    }
-    0
-}
-
-// How many places from `first` on, before `last`, have an entry.
-pub fn held(table: &[u64], first: usize, last: usize) -> usize {
-    let mut n: usize = 0;
-    let mut i = first;
-    while i < last {
-        if value_at(table, i) != 0 {
-            n = n.wrapping_add(1);
-        }
-        i += 1;
-    }
-    n
-}
-
-pub fn lesser(a: usize, b: usize) -> usize
-    ensures { (result ≤ a) × (result ≤ b) }
-{
-    if a < b {
-        return a;
-    }
-    b
-}
-
-// What a column is to have at a place.
-pub fn word(keys: bool, table: &[u64], place: usize) -> u64 {
-    if keys {
-        return key_of(place);
-    }
-    value_at(table, place)
-}
-
-pub fn say(rt: &impl Print, text: &[u8], number: u64) -> io::Result<()> {
-    rt.write_all(text)?;
-    rt.print(number)
-}
-
-// A byte of a text as it is, or the number that a capital stands for: A for the first, B for the second.
-fn put_byte(rt: &impl Print, byte: u8, numbers: &[u64]) -> io::Result<()> {
-    if byte < b'A' {
-        write_byte(rt, byte)
-    } else if b'Z' < byte {
-        write_byte(rt, byte)
-    } else {
-        rt.print(value_at(numbers, (byte - b'A') as usize))
+    // The gap after it.
+    pub fn end(self) -> usize {
+        self.place.saturating_add(1)
     }
 }
 
-pub fn write_byte(rt: &impl Print, byte: u8) -> io::Result<()> {
-    let bytes = [byte];
-    rt.write_all(&bytes)
+// The value of each place's key, where the table has it. Past the last place there is none, and none is stored there.
+#[derive(Drop)]
+pub struct Table {
+    values: Vec<Option<u64>>,
 }
 
-// One of the texts that bars part, counted from 0, with its numbers.
-pub fn print(rt: &impl Print, text: &[u8], which: usize, numbers: &[u64]) -> io::Result<()> {
-    let mut bars: usize = 0;
-    let mut i: usize = 0;
-    while i < text.len() {
-        let byte = text[i];
-        if byte == b'|' {
-            bars = bars.wrapping_add(1);
-        } else if bars == which {
-            put_byte(rt, byte, numbers)?;
-        }
-        i += 1;
+impl Table {
+    pub fn new(alloc: Global, places: usize) -> Result<Table, AllocError> {
+        Ok(Table {
+            values: vec![in alloc; None; places]?,
+        })
     }
-    Ok(())
+
+    pub fn places(&self) -> usize {
+        self.values.len()
+    }
+
+    pub fn get(&self, place: usize) -> Option<u64> {
+        self.values.get(place).copied().flatten()
+    }
+
+    // The value that the place had.
+    pub fn insert(&mut self, place: usize, value: u64) -> Option<u64> {
+        self.values.get_mut(place)?.replace(value)
+    }
+
+    pub fn remove(&mut self, place: usize) -> Option<u64> {
+        self.values.get_mut(place)?.take()
+    }
+
+    // The first entry from a place on.
+    pub fn next_from(&self, place: usize) -> Option<Held>
+        ensures { IfSome result (λ e. place ≤ e.place) }
+    {
+        (place..self.places()).find_map(|place| self.entry(place))
+    }
+
+    // The last entry before a place.
+    pub fn last_before(&self, place: usize) -> Option<Held>
+        ensures { IfSome result (λ e. e.place < place) }
+    {
+        (0..place).rev().find_map(|place| self.entry(place))
+    }
+
+    fn entry(&self, place: usize) -> Option<Held>
+        ensures { IfSome result (λ e. e.place ≡ place) }
+    {
+        self.get(place).map(|value| Held { place, value })
+    }
+
+    // The entries from one place on, before another.
+    pub fn entries(
+        &self,
+        alloc: Global,
+        first: usize,
+        last: usize,
+    ) -> Result<Vec<Held>, AllocError> {
+        (first..last)
+            .filter_map(|place| self.entry(place))
+            .collect(alloc)
+    }
+
+    // How many entries there are.
+    pub fn count(&self) -> usize {
+        self.values.iter().filter(|value| value.is_some()).count()
+    }
 }
 
-// Fills the bytes from their start, until they are full or the input ends; how many it filled.
+// Fills the bytes from their start, until they are full or the input ends; how many it filled. A read may give fewer
+// bytes than there is room for.
 pub fn read_full(input: &mut impl Read, bytes: &mut [u8]) -> io::Result<usize>
     ensures { IfOk result (λ n. n ≤ length bytes.new) }
 {

@@ -4,13 +4,14 @@
 -- Assumes nothing.
 use mathlib.Core.Path.{◌≡◌, refl, sym, ap, subst, ◌∙◌}
 use mathlib.Core.Bool.{Bool, true, false}
-use mathlib.Core.Option.{Option, none, some}
+use mathlib.Core.Option as pure
 use mathlib.Core.List.{List, [], ◌∷◌}
 use Prim.Native.Nat.{ℕ, zero, suc, pred, ◌+◌, ◌-◌, ◌*◌, ◌≤◌, ◌<◌}
 use native.Mathlib.Omega.{arith}
 use lib.Dec.{eqb}
 use lib.ListN.{length}
 use borrow.Author.Tests.{eqb-true, eq-eqb}
+use Rattle.std.specs.Prelude.{Ok, Result, Some, Option}
 use Rattle.model.specs.Basics.{tab, All, sum, same}
 use Rattle.model.specs.Layout.{most_levels, pages_in, word, today}
 use Rattle.model.specs.Head.{count_word, root_word, levels_word, open_word, after_word, key_word, headed, geometry_of}
@@ -24,13 +25,11 @@ use Rattle.model.specs.Pool.{whole_of, pool_of}
 use Rattle.model.specs.Sound.{Sound}
 use Rattle.model.specs.PoolCalls.{Checks}
 use Rattle.lend.specs.Pages.{least, most, Inside, page_in, map_in}
-use Rattle.tree.specs.declared.check.Tally.{Tally}
-use Rattle.tree.specs.declared.check.Tally.TheVariants as tally
-use Rattle.tree.specs.declared.search.Got.{Got}
-use Rattle.tree.specs.declared.search.Got.TheVariants as got
+use Rattle.tree.specs.declared.search.Found.{Found}
 use Rattle.tree.specs.Sits.{Sits}
 use Rattle.tree.specs.Search.{got_by, GetsBelow}
-use Rattle.tree.specs.Check.{over_tree, Walks, Cursored, CursorIs}
+use Rattle.tree.specs.declared.check.Tally.{Tally}
+use Rattle.tree.specs.Check.{Said, broken, over_tree, Walks, Cursored, CursorIs}
 use Rattle.model.proofs.Cases.{either_lt, either-eq, contrary, same_self, same-other, same-le, never}
 use Rattle.model.proofs.Basics.{all_both}
 use Rattle.model.proofs.Sums.{sum-append, sum-le, sum_to-ext}
@@ -48,6 +47,7 @@ use Rattle.lend.proofs.Touching.{map-bits}
 use Rattle.lend.proofs.Fitting.{headed-sized, head-root, head-levels}
 use Rattle.tree.proofs.Meeting.{Follows, Goes}
 use Rattle.tree.proofs.Walked.{Fine, GoesBelow, tree_at, tree-goes}
+use Rattle.page.specs.declared.Unsound.{Unsound}
 
 -- ---- how often a key is there
 
@@ -155,6 +155,9 @@ root-there w e n =
 
 -- ---- the walk from the root
 
+abbrev pub nothing : Tally
+nothing = record { pages = 0; entries = 0; last = 0 }
+
 module _ (w : List ℕ) (head : headed w ≡ true) where
   abbrev h : ℕ
   h = levels_word w
@@ -223,12 +226,12 @@ module _ (w : List ℕ) (head : headed w ≡ true) where
   root-goes : GoesBelow w h p 1 0 0 0 []
   root-goes = tree-goes w h p 1 0 0 0 [] (omega arith) (record { rising = tt; count = refl; last = refl })
 
-  module _ (a b k : ℕ) (e : over_tree w h p 1 (tally.Of 0 0 0) ≡ tally.Of a b k) where
-    goes_through : Goes (Fine w h p 1 × Follows w 0 [] (pages_below h root) (entries h root)) (0 + pages_below h root) (entries h root) (tally.Of a b k)
+  module _ (t : Tally) (e : over_tree w h p 1 (Ok nothing) ≡ Ok t) where
+    goes_through : Goes (Fine w h p 1 × Follows w 0 [] (pages_below h root) (entries h root)) (0 + pages_below h root) (entries h root) (Ok t)
     goes_through =
         subst (Goes (Fine w h p 1 × Follows w 0 [] (pages_below h root) (entries h root)) (0 + pages_below h root) (entries h root)) e root-goes
 
-    pub check-through : (r : Bool) → a ≡ count_bits (map_in w) → b ≡ count_word w → CursorIs w r → Checks w r
+    pub check-through : (r : Bool) → t.pages ≡ count_bits (map_in w) → t.entries ≡ count_word w → CursorIs w r → Checks w r
     unfolding whole_of held geometry_of
     check-through r pages count c =
         let g = goes_through in
@@ -244,19 +247,19 @@ module _ (w : List ℕ) (head : headed w ≡ true) where
           sound-yes = λ s. c.finds sits g.0.1.rising (sound-cursored s);
         }
 
-    pub check-pages : (a ≡ count_bits (map_in w) → ⊥) → Checks w false
+    pub check-pages : (t.pages ≡ count_bits (map_in w) → ⊥) → Checks w false
     check-pages n = record {
       yes-sound = λ y. contrary y refl;
       sound-yes = λ s. let f = sound-walked s in let e₁ = goes_through.1 in let pages = f.pages in absurd (n (omega arith));
     }
 
-    pub check-entries : (b ≡ count_word w → ⊥) → Checks w false
+    pub check-entries : (t.entries ≡ count_word w → ⊥) → Checks w false
     check-entries n = record {
       yes-sound = λ y. contrary y refl;
       sound-yes = λ s. let f = sound-walked s in let e₁ = goes_through.2.count in let count = f.count in absurd (n (omega arith));
     }
 
-  pub check-broken : over_tree w h p 1 (tally.Of 0 0 0) ≡ tally.Broken → Checks w false
+  pub check-broken : over_tree w h p 1 (Ok nothing) ≡ broken → Checks w false
   check-broken e = record {
     yes-sound = λ y. contrary y refl;
     sound-yes = λ s.
@@ -265,16 +268,16 @@ module _ (w : List ℕ) (head : headed w ≡ true) where
   }
 
   -- the code's walk is from the root
-  pub walk-root : (r : Tally) → (levels_word w ≡ 0 → ⊥) → Walks w (root_word w - 1) (levels_word w - 1) 1 0 0 0 r → over_tree w h p 1 (tally.Of 0 0 0) ≡ r
+  pub walk-root : (r : Said) → (levels_word w ≡ 0 → ⊥) → Walks w (root_word w - 1) (levels_word w - 1) 1 nothing r → over_tree w h p 1 (Ok nothing) ≡ r
   walk-root r n x =
       let up : suc (levels_word w - 1) ≡ levels_word w = omega arith in
       let is = (root-there w head n).is in
       sym (x.exact ∙ rw (up, is))
 
   -- a tree of no levels
-  pub over_none : levels_word w ≡ 0 → over_tree w h p 1 (tally.Of 0 0 0) ≡ tally.Of 0 0 0
+  pub over_none : levels_word w ≡ 0 → over_tree w h p 1 (Ok nothing) ≡ Ok nothing
   unfolding over_tree
-  over_none z = subst (λ (l : ℕ). over_tree w l p 1 (tally.Of 0 0 0) ≡ tally.Of 0 0 0) (sym z) refl
+  over_none z = subst (λ (l : ℕ). over_tree w l p 1 (Ok nothing) ≡ Ok nothing) (sym z) refl
 
   pub count_none : levels_word w ≡ 0 → 0 ≡ count_word w
   count_none z =
@@ -287,22 +290,22 @@ check-head w e = record { yes-sound = λ y. contrary y refl; sound-yes = λ s. c
 -- ---- the cursor
 
 -- a search that finds its way answers by the key
-gets-is : (w : List ℕ) (l h p k above : ℕ) (r : Got) → l ≡ suc h → GetsBelow w p h k above r → Sits w 1 l (tree_at w l p) → Rising (entries l (tree_at w l p))
+gets-is : (w : List ℕ) (l h p k above : ℕ) (r : Result (Option Found) Unsound) → l ≡ suc h → GetsBelow w p h k above r → Sits w 1 l (tree_at w l p) → Rising (entries l (tree_at w l p))
     → r ≡ got_by above (lookup k (entries l (tree_at w l p))) (find k l (tree_at w l p)).read
 gets-is w zero h p k above r e g s o = absurd (omega arith)
 gets-is w (suc l) h p k above r e g s o =
     let same : h ≡ l = omega arith in
     let t : Tree (suc l) = tree_at w (suc l) p in
     subst (λ (z : ℕ). GetsBelow w p z k above r) same g 1 t s (read-page least (page_in w) l p)
-    ∙ ap (λ (x : Option ℕ). got_by above x (find k (suc l) t).read) (found-held k least 1 (suc l) t s.shaped o)
+    ∙ ap (λ (x : pure.Option ℕ). got_by above x (find k (suc l) t).read) (found-held k least 1 (suc l) t s.shaped o)
 
-value_there : (above n v m : ℕ) (x : Option ℕ) → got.Value v m ≡ got_by above x n → there x ≡ true
-value_there above n v m none e = never (cc)
-value_there above n v m (some u) e = refl
+value_there : (above n : ℕ) (f : Found) (x : pure.Option ℕ) → Ok (Some f) ≡ got_by above x n → there x ≡ true
+value_there above n f pure.none e = never (cc)
+value_there above n f (pure.some u) e = refl
 
-there-value : (above n : ℕ) (x : Option ℕ) (r : Got) → r ≡ got_by above x n → there x ≡ true → ((v m : ℕ) → r ≡ got.Value v m → ⊥) → ⊥
-there-value above n none r e y no_value = contrary y refl
-there-value above n (some v) r e y no_value = no_value v (above + n) e
+there-value : (above n : ℕ) (x : pure.Option ℕ) (r : Result (Option Found) Unsound) → r ≡ got_by above x n → there x ≡ true → ((f : Found) → r ≡ Ok (Some f) → ⊥) → ⊥
+there-value above n pure.none r e y no_value = contrary y refl
+there-value above n (pure.some v) r e y no_value = no_value _ e
 
 none-there : (w : List ℕ) (l p k : ℕ) → l ≡ 0 → has k (entries l (tree_at w l p)) ≡ true → ⊥
 unfolding entries has
@@ -340,25 +343,25 @@ module _ (w : List ℕ) (head : headed w ≡ true) where
     cursor-empty z = cursor-absent (λ s r y. none-there w (levels_word w) (pred (root_word w)) (key_word w) z y)
 
     module _ (l p : ℕ) (up : levels_word w ≡ suc l) (is : p ≡ pred (root_word w)) where
-      got-is : (r : Got) → GetsBelow w p l (key_word w) 0 r → Sits w 1 (whole_of w).levels (whole_of w).tree → Rising (held (whole_of w))
+      got-is : (r : Result (Option Found) Unsound) → GetsBelow w p l (key_word w) 0 r → Sits w 1 (whole_of w).levels (whole_of w).tree → Rising (held (whole_of w))
           → r ≡ got_by 0 (lookup (key_word w) (held (whole_of w))) (find (key_word w) (whole_of w).levels (whole_of w).tree).read
       unfolding whole_of held geometry_of
       got-is r g s o =
           gets-is w (levels_word w) l (pred (root_word w)) (key_word w) 0 r up (subst (λ (z : ℕ). GetsBelow w z l (key_word w) 0 r) is g) s o
 
-      pub cursor-lost : (r : Got) → GetsBelow w p l (key_word w) 0 r → ((v m : ℕ) → r ≡ got.Value v m → ⊥) → CursorIs w false
+      pub cursor-lost : (r : Result (Option Found) Unsound) → GetsBelow w p l (key_word w) 0 r → ((f : Found) → r ≡ Ok (Some f) → ⊥) → CursorIs w false
       cursor-lost r g no_value =
           cursor-absent
           (λ s o y. there-value 0 _ (lookup (key_word w) (held (whole_of w))) r (got-is r g s o) (sym (has-lookup (key_word w) (held (whole_of w))) ∙ y) no_value)
 
-      pub cursor-found : (v m : ℕ) → (open_word w ≡ 0 → ⊥) → GetsBelow w p l (key_word w) 0 (got.Value v m) → CursorIs w true
-      cursor-found v m opened g = record {
+      pub cursor-found : {r : Result (Option Found) Unsound} {f : Found} → (open_word w ≡ 0 → ⊥) → r ≡ Ok (Some f) → GetsBelow w p l (key_word w) 0 r → CursorIs w true
+      cursor-found {r} {f} opened is g = record {
         right = λ s o y. record {
           closed = λ z. absurd (opened z);
           start = λ z. absurd (after z);
           named = λ z.
               has-lookup (key_word w) (held (whole_of w))
-              ∙ value_there 0 _ v m (lookup (key_word w) (held (whole_of w))) (got-is (got.Value v m) g s o);
+              ∙ value_there 0 _ f (lookup (key_word w) (held (whole_of w))) (sym is ∙ got-is r g s o);
         };
         finds = λ s o c. refl;
       }

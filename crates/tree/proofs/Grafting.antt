@@ -1,30 +1,30 @@
 -- The three ways of one page on an insertion's path: its child stayed whole; it split and there is room for what it
 -- handed up; it split and the page is full, so that it splits too, onto the next fresh page. And so of a whole path.
 -- Assumes nothing.
-use mathlib.Core.Path.{◌≡◌, refl, sym, ap, ◌∙◌}
+use mathlib.Core.Path.{◌≡◌, refl, sym, ap, subst, ◌∙◌}
 use mathlib.Core.Logic.{◌≢◌}
 use mathlib.Core.List.{List, [], ◌∷◌, map}
 use Prim.Native.Nat.{ℕ, zero, suc, ◌+◌, ◌-◌, ◌≤◌, ◌<◌, pred}
 use native.Mathlib.Omega.{arith}
 use lib.ListN.{length, drop, get_or, length-drop}
 use borrow.Author.Tests.{le-leb, lt-leb}
+use Rattle.std.specs.Prelude.{Option, Some, None}
 use Rattle.model.specs.Basics.{ins, sum, All, same}
 use Rattle.model.specs.Sums.{sum_to}
 use Rattle.model.specs.Layout.{pages_in, today}
 use Rattle.model.specs.PageMap.{bit_at}
-use Rattle.model.specs.Tree.{Entry, Node, Tree, entry, no_entry, no_tree, size, times}
+use Rattle.model.specs.Tree.{Entry, Node, Tree, no_entry, no_tree, size, times}
 use Rattle.model.specs.Page.{count_of, height_of, entries_of, children_of}
 use Rattle.model.specs.Standing.{page_number, Standing}
 use Rattle.model.specs.Gap.{slot_at, rest_at, child_at}
 use Rattle.model.specs.Insert.{Up, whole, split, cut_left, cut_right, fit, grown, with_child, put, insert_at, run}
-use Rattle.pagemap.specs.declared.Lowest.TheVariants as lowest
 use Rattle.pagemap.specs.Bits.{set_bit}
 use Rattle.pagemap.specs.Lowest.{lowest_of}
 use Rattle.lend.specs.Pages.{least, most, keeps, page_in, map_in}
 use Rattle.lend.specs.Touches.{Sized, Touches}
-use Rattle.tree.specs.declared.insert.Up.TheVariants as up
+use Rattle.tree.specs.declared.insert.Up as lent
 use Rattle.tree.specs.Sits.{PathOf, Sits}
-use Rattle.tree.specs.Insert.{frees_in, fresh_in, fuller, Fits, Parts, Puts, Marked, up_of, UpStands, grown_pages, Grows, InsertsBelow}
+use Rattle.tree.specs.Insert.{hands_up, frees_in, fresh_in, fuller, Fits, Parts, Puts, Marked, up_of, UpStands, grown_pages, Grows, InsertsBelow}
 use Rattle.model.proofs.Cases.{either_lt, same_self, same-zero, never}
 use Rattle.model.proofs.Basics.{length-ins, all_take, all_drop, splice-same, splice-more}
 use Rattle.model.proofs.Sums.{sum-splice}
@@ -37,9 +37,10 @@ use Rattle.tree.proofs.Saying.{Says, says_holds, says-left, says-right, root-cou
 use Rattle.tree.proofs.Sitting.{sits-some, sits-most, sits-slot}
 use Rattle.tree.proofs.Paths.{behind, first-page, first_slot, path-behind, behind-next, behind-from, first-from}
 use Rattle.tree.proofs.Growing.{taking, up_below, run_below, grown_below, run-ended, run_ends, run-goes, grown-page, grown-child, grown-next, Ready, once, once-below, inside, child-ready, page-kept, others-stand}
+use Rattle.page.specs.Page.{plain}
 
 -- what an insertion leaves, once it is known what it hands up
-grows-by : (w : List ℕ) (h : ℕ) (t : Tree h) (g : ℕ) (e : Entry) (w' : List ℕ) (r : up.the_data) (o : Up (Tree h)) → insert_at least (fresh_in w) h t g e ≡ o
+grows-by : (w : List ℕ) (h : ℕ) (t : Tree h) (g : ℕ) (e : Entry) (w' : List ℕ) (r : Option lent.Up) (o : Up (Tree h)) → insert_at least (fresh_in w) h t g e ≡ o
     → r ≡ up_of h o → UpStands w' h o → ((q : ℕ) → bit_at (map_in w') q ≡ bit_at (map_in w) q + taking w q (run least h t g)) → Touches (grown_pages w h t g) w w'
     → Grows w h t g e w' r
 grows-by w h t g e w' r o is handed stands bits touches = record { handed = rw is handed; stands = rw is stands; bits = bits; touches = touches }
@@ -69,15 +70,15 @@ module _ {w : List ℕ} {low h : ℕ} {t : Tree (suc h)} {g : ℕ} (a : Ready w 
 
   -- ---- the child stayed whole
 
-  module _ (w₁ : List ℕ) (G : Grows w h (child_at h t g) (rest_at h t g) e w₁ up.Whole) where
-    whole-grows : (c : Tree h) → up_below w h t g e ≡ whole c → Grows w (suc h) t g e w₁ up.Whole
+  module _ (w₁ : List ℕ) (G : Grows w h (child_at h t g) (rest_at h t g) e w₁ None) where
+    whole-grows : (c : Tree h) → up_below w h t g e ≡ whole c → Grows w (suc h) t g e w₁ None
     unfolding insert_at put Standing
     whole-grows c is =
         let i = slot_at h t g in
         let k = run-ended h t g (rw is at used) in
         let kept = page-kept a w₁ G.touches in
         let stood = a.sits.stands.0 in
-        grows-by w (suc h) t g e w₁ up.Whole (whole (with_child t i c)) (rw is) refl (
+        grows-by w (suc h) t g e w₁ None (whole (with_child t i c)) (rw is) refl (
           record {
             height = ap height_of kept ∙ stood.height;
             own = ap (entries_of most) kept ∙ stood.own;
@@ -88,16 +89,16 @@ module _ {w : List ℕ} {low h : ℕ} {t : Tree (suc h)} {g : ℕ} (a : Ready w 
         (λ q. rw k (G.bits q))
         (touches-page h t g G.touches (touches_none (t.page ∷ []) refl))
 
-    pub grows-whole : Grows w (suc h) t g e w₁ up.Whole
+    pub grows-whole : Grows w (suc h) t g e w₁ None
     grows-whole = go (up_below w h t g e) refl
       where
-        go : (o : Up (Tree h)) → up_below w h t g e ≡ o → Grows w (suc h) t g e w₁ up.Whole
+        go : (o : Up (Tree h)) → up_below w h t g e ≡ o → Grows w (suc h) t g e w₁ None
         go (whole c) is = whole-grows c is
-        go (split l x r) is = let other : up.Whole ≡ up_of h (split l x r) = rw is at G.handed in never (cc)
+        go (split l x r) is = let other : None ≡ up_of h (split l x r) = rw is at G.handed in never (cc)
 
   -- ---- the child split
 
-  module _ (w₁ w₂ : List ℕ) {r₁ : up.the_data} (G : Grows w h (child_at h t g) (rest_at h t g) e w₁ r₁) (l : Tree h) (x : Entry) (r : Tree h)
+  module _ (w₁ w₂ : List ℕ) {r₁ : Option lent.Up} (G : Grows w h (child_at h t g) (rest_at h t g) e w₁ r₁) (l : Tree h) (x : Entry) (r : Tree h)
       (is : up_below w h t g e ≡ split l x r) where
     -- all below have split
     run_is : run_below h t g ≡ h
@@ -140,7 +141,7 @@ module _ {w : List ℕ} {low h : ℕ} {t : Tree (suc h)} {g : ℕ} (a : Ready w 
 
     -- ---- and there is room
 
-    room-grows : (r₂ : up.the_data) → length t.own < most → Fits t.page (slot_at h t g) x (page_number h r) w₁ w₂ r₂ → Grows w (suc h) t g e w₂ r₂
+    room-grows : (r₂ : Option lent.Up) → length t.own < most → Fits t.page (slot_at h t g) x (page_number h r) w₁ w₂ r₂ → Grows w (suc h) t g e w₂ r₂
     unfolding insert_at put fit Standing
     room-grows r₂ few f =
         let k = run_ends h t g run_is few in
@@ -168,7 +169,7 @@ module _ {w : List ℕ} {low h : ℕ} {t : Tree (suc h)} {g : ℕ} (a : Ready w 
       page-apart : t.page ≢ fresh_in w h
       page-apart = same-zero t.page (fresh_in w h) (omega (arith, once_more t.page, same_self t.page))
 
-      next-free : lowest_of (frees_in w₁) ≡ lowest.Page (fresh_in w h)
+      next-free : lowest_of (frees_in w₁) ≡ Some (fresh_in w h)
       next-free =
           let room = a.room in
           rw G.touches.long
@@ -182,7 +183,7 @@ module _ {w : List ℕ} {low h : ℕ} {t : Tree (suc h)} {g : ℕ} (a : Ready w 
           (map-bits w₁ (omega arith)) (λ p. rw run_is at (G.bits p)) next-free in
           rw (map, k) (omega (arith, taken.2 q))
 
-      full-grows : (r₂ : up.the_data) → length t.own ≡ most → Parts t.page (fresh_in w h) (slot_at h t g) x (page_number h r) w₁ w₂ r₂ → Grows w (suc h) t g e w₂ r₂
+      full-grows : (r₂ : Option lent.Up) → length t.own ≡ most → Parts t.page (fresh_in w h) (slot_at h t g) x (page_number h r) w₁ w₂ r₂ → Grows w (suc h) t g e w₂ r₂
       unfolding insert_at put fit Standing
       full-grows r₂ full f =
           let q = fresh_in w h in
@@ -190,7 +191,7 @@ module _ {w : List ℕ} {low h : ℕ} {t : Tree (suc h)} {g : ℕ} (a : Ready w 
           all-standing least (page_in w₁) (page_in w₂) h wide.children (λ p some. let d = children-apart p some in sym (f.touches.others p (d.0, (d.1, tt)))) children-stand in
           grows-by w (suc h) t g e w₂ r₂ (split (cut_left keeps wide) (get_or wide.own keeps no_entry) (cut_right q keeps wide))
           (rw (is, words_long, lt-leb (suc (length t.own)) most (omega arith)))
-          (f.answer ∙ ap (λ (es : List Entry). up.Split (get_or es keeps no_entry).key (get_or es keeps no_entry).value q) words-say.own) (
+          (f.answer ∙ ap (λ (es : List Entry). hands_up (get_or es keeps no_entry) q) words-say.own) (
             (
               says_holds h (page_number h) (says-left h (page_number h) keeps words-say) (rw height-is at f.left),
               all_take (Standing least (page_in w₂) h) (suc keeps) wide.children stand,
@@ -203,7 +204,7 @@ module _ {w : List ℕ} {low h : ℕ} {t : Tree (suc h)} {g : ℕ} (a : Ready w 
           (next-taken f.map)
           (touches-both h t g G.touches k f.touches)
 
-    split-grows : (r₂ : up.the_data) → Puts t.page (slot_at h t g) x (page_number h r) w₁ w₂ r₂ → Grows w (suc h) t g e w₂ r₂
+    split-grows : (r₂ : Option lent.Up) → Puts t.page (slot_at h t g) x (page_number h r) w₁ w₂ r₂ → Grows w (suc h) t g e w₂ r₂
     split-grows r₂ P =
         let count : count_of (page_in w₁ t.page) ≡ length t.own = ap count_of (page-kept a w₁ G.touches) ∙ root-count w h t a.sits.stands in
         let slot = sits-slot w low h t a.sits g a.within in
@@ -214,38 +215,36 @@ module _ {w : List ℕ} {low h : ℕ} {t : Tree (suc h)} {g : ℕ} (a : Ready w 
         (λ full. let k = run-goes h t g run_is full in
         full-grows k r₂ (omega arith) (P.parts (fresh_in w h) (omega arith) (omega arith) (next-free k) (page-apart k)))
 
-  pub grows-put : (w₁ w₂ : List ℕ) (k v child : ℕ) (r₂ : up.the_data) → Grows w h (child_at h t g) (rest_at h t g) e w₁ (up.Split k v child)
-      → Puts t.page (slot_at h t g) (entry k v) child w₁ w₂ r₂ → Grows w (suc h) t g e w₂ r₂
-  grows-put w₁ w₂ k v child r₂ G P = go (up_below w h t g e) refl
+  pub grows-put : (w₁ w₂ : List ℕ) (u : lent.Up) (r₂ : Option lent.Up) → Grows w h (child_at h t g) (rest_at h t g) e w₁ (Some u)
+      → Puts t.page (slot_at h t g) (plain u.entry) u.child w₁ w₂ r₂ → Grows w (suc h) t g e w₂ r₂
+  grows-put w₁ w₂ u r₂ G P = go (up_below w h t g e) refl
     where
       go : (o : Up (Tree h)) → up_below w h t g e ≡ o → Grows w (suc h) t g e w₂ r₂
-      go (whole c) is = let other : up.Split k v child ≡ up_of h (whole c) = rw is at G.handed in never (cc)
+      go (whole c) is = let other : Some u ≡ up_of h (whole c) = rw is at G.handed in never (cc)
       go (split l x r) is =
-          let handed : up.Split k v child ≡ up_of h (split l x r) = rw is at G.handed in
-          let key : k ≡ x.key = cc in
-          let value : v ≡ x.value = cc in
-          let right : child ≡ page_number h r = cc in
-          split-grows w₁ w₂ G l x r is r₂ (rw (key, value, right) at P)
+          let handed : Some u ≡ up_of h (split l x r) = rw is at G.handed in
+          let same : u ≡ record { entry = record { key = x.key; value = x.value }; child = page_number h r } = cc in
+          split-grows w₁ w₂ G l x r is r₂ (subst (λ (y : lent.Up). Puts t.page (slot_at h t g) (plain y.entry) y.child w₁ w₂ r₂) same P)
 
 -- ---- along a path
 
 -- what a promise of `insert_along` says of each tree
-abbrev GrowsOn : List ℕ → List ℕ → List ℕ → Entry → List ℕ → up.the_data → Type 0
+abbrev GrowsOn : List ℕ → List ℕ → List ℕ → Entry → List ℕ → Option lent.Up → Type 0
 GrowsOn w ps ss e w' r =
     (low h : ℕ) (t : Tree h) (g : ℕ) → Sits w low h t → g ≤ size h t → PathOf h t g ps ss → Marked w h t → run least h t g ≤ length (frees_in w) → Grows w h t g e w' r
 
 -- no pages: the entry itself is handed up
-pub below_none : (w ps ss : List ℕ) (e : Entry) → length ps ≡ 0 → InsertsBelow w ps ss e w (up.Split e.key e.value 0)
+pub below_none : (w ps ss : List ℕ) (e : Entry) → length ps ≡ 0 → InsertsBelow w ps ss e w (hands_up e 0)
 unfolding insert_at run sum_to Standing
 below_none w ps ss e none = record { long = refl; head = refl; grows = go }
   where
-    go : GrowsOn w ps ss e w (up.Split e.key e.value 0)
+    go : GrowsOn w ps ss e w (hands_up e 0)
     go low zero t g s b path m room = record { handed = refl; stands = (tt, tt); bits = λ q. omega arith; touches = touches_none (grown_pages w 0 t g) refl }
     go low (suc h) t g s b path m room = absurd (omega (arith, ap length path.pages, (path-long (suc h) t g).0))
 
 module _ (w ps ss : List ℕ) (e : Entry) (z : Sized w) (some : 1 ≤ length ps) where
   -- one page and the pages below it: `step` is the page's
-  below_step : (w₁ w₂ : List ℕ) (r₁ r₂ : up.the_data) → GrowsOn w (behind ps) (behind ss) e w₁ r₁
+  below_step : (w₁ w₂ : List ℕ) (r₁ r₂ : Option lent.Up) → GrowsOn w (behind ps) (behind ss) e w₁ r₁
       → ((low h : ℕ) (t : Tree (suc h)) (g : ℕ) → Ready w low (suc h) t g → PathOf (suc h) t g ps ss → Grows w h (child_at h t g) (rest_at h t g) e w₁ r₁ → Grows w (suc h) t g e w₂ r₂)
       → GrowsOn w ps ss e w₂ r₂
   below_step w₁ w₂ r₁ r₂ on step low zero t g s b path m room = absurd (omega (arith, ap length path.pages, (path-long 0 t g).0))
@@ -254,33 +253,33 @@ module _ (w ps ss : List ℕ) (e : Entry) (z : Sized w) (some : 1 ≤ length ps)
       let c = child-ready a in
       step low h t g a path (on least h (child_at h t g) (rest_at h t g) c.sits c.within (path-behind h t g ps ss path) c.marked c.room)
 
-  below-whole : (w₁ : List ℕ) → InsertsBelow w (behind ps) (behind ss) e w₁ up.Whole → InsertsBelow w ps ss e w₁ up.Whole
+  below-whole : (w₁ : List ℕ) → InsertsBelow w (behind ps) (behind ss) e w₁ None → InsertsBelow w ps ss e w₁ None
   below-whole w₁ c = record {
     long = c.long;
     head = c.head;
-    grows = below_step w₁ w₁ up.Whole up.Whole c.grows (λ low h t g a path G. grows-whole a z e w₁ G);
+    grows = below_step w₁ w₁ None None c.grows (λ low h t g a path G. grows-whole a z e w₁ G);
   }
 
-  below_put : (w₁ w₂ : List ℕ) (k v child : ℕ) (r : up.the_data) → InsertsBelow w (behind ps) (behind ss) e w₁ (up.Split k v child)
-      → Puts (get_or ps 0 0) (get_or ss 0 0) (entry k v) child w₁ w₂ r → InsertsBelow w ps ss e w₂ r
-  below_put w₁ w₂ k v child r c P = record {
+  below_put : (w₁ w₂ : List ℕ) (u : lent.Up) (r : Option lent.Up) → InsertsBelow w (behind ps) (behind ss) e w₁ (Some u)
+      → Puts (get_or ps 0 0) (get_or ss 0 0) (plain u.entry) u.child w₁ w₂ r → InsertsBelow w ps ss e w₂ r
+  below_put w₁ w₂ u r c P = record {
     long = P.long ∙ c.long;
     head = P.head ∙ c.head;
-    grows = below_step w₁ w₂ (up.Split k v child) r c.grows
-        (λ low h t g a path G. grows-put a z e w₁ w₂ k v child r G (rw (first-page (suc h) t g (omega arith) path.pages, first_slot h t g path.slots) at P));
+    grows = below_step w₁ w₂ (Some u) r c.grows
+        (λ low h t g a path G. grows-put a z e w₁ w₂ u r G (rw (first-page (suc h) t g (omega arith) path.pages, first_slot h t g path.slots) at P));
   }
 
 -- ---- from the leaf upward: from place i of the path to place i - 1, and from any place to all of it where nothing is
 -- handed up
 
 module _ (w ps ss : List ℕ) (e : Entry) (z : Sized w) where
-  pub along-put : (i : ℕ) → 0 < i → i ≤ length ps → (w₁ w₂ : List ℕ) (k v child : ℕ) (r : up.the_data) → InsertsBelow w (drop i ps) (drop i ss) e w₁ (up.Split k v child)
-      → Puts (get_or ps (i - 1) 0) (get_or ss (i - 1) 0) (entry k v) child w₁ w₂ r → InsertsBelow w (drop (i - 1) ps) (drop (i - 1) ss) e w₂ r
-  along-put i some b w₁ w₂ k v child r c P =
-      below_put w (drop (i - 1) ps) (drop (i - 1) ss) e z (simp length-drop (omega arith)) w₁ w₂ k v child r
+  pub along-put : (i : ℕ) → 0 < i → i ≤ length ps → (w₁ w₂ : List ℕ) (u : lent.Up) (r : Option lent.Up) → InsertsBelow w (drop i ps) (drop i ss) e w₁ (Some u)
+      → Puts (get_or ps (i - 1) 0) (get_or ss (i - 1) 0) (plain u.entry) u.child w₁ w₂ r → InsertsBelow w (drop (i - 1) ps) (drop (i - 1) ss) e w₂ r
+  along-put i some b w₁ w₂ u r c P =
+      below_put w (drop (i - 1) ps) (drop (i - 1) ss) e z (simp length-drop (omega arith)) w₁ w₂ u r
       (rw (behind-from ps i some, behind-from ss i some) c) (rw (first-from ps (i - 1) 0, first-from ss (i - 1) 0) P)
 
-  pub along-whole : (w₁ : List ℕ) (i : ℕ) → i ≤ length ps → InsertsBelow w (drop i ps) (drop i ss) e w₁ up.Whole → InsertsBelow w ps ss e w₁ up.Whole
+  pub along-whole : (w₁ : List ℕ) (i : ℕ) → i ≤ length ps → InsertsBelow w (drop i ps) (drop i ss) e w₁ None → InsertsBelow w ps ss e w₁ None
   along-whole w₁ zero b c = c
   along-whole w₁ (suc i) b c =
       along-whole w₁ i (omega arith) (below-whole w (drop i ps) (drop i ss) e z (simp length-drop (omega arith)) w₁ (rw (behind-next ps i, behind-next ss i) c))

@@ -9,21 +9,19 @@ use native.Mathlib.Numerals.{add-one}
 use native.Mathlib.Omega.{arith}
 use lib.ListN.{length, take, drop, set, length-set}
 use lib.Seq.{drop-drop, drop-set-lt, get_or-set_same, get_or-set_other}
+use Rattle.std.specs.Prelude.{Result, Ok, Err, Some, None, Option}
 use Rattle.model.specs.Layout.{head_words, page_words, map_words, first_word, word, today}
 use Rattle.model.specs.PageMap.{map_at}
 use Rattle.model.specs.Tree.{Entry}
 use Rattle.model.specs.Page.{count_of, page_at}
 use Rattle.model.specs.Standing.{Holds}
-use Rattle.pagemap.specs.declared.Lowest.{Lowest}
-use Rattle.pagemap.specs.declared.Lowest.TheVariants as lowest
 use Rattle.pagemap.specs.Bits.{clear_bit}
 use Rattle.pagemap.specs.Lowest.{lowest_of, took}
 use Rattle.page.specs.Node.{alone}
 use Rattle.lend.specs.Pages.{most, Inside, OnlyPages, page_in, map_in}
 use Rattle.lend.specs.Touches.{MapBecomes}
-use Rattle.tree.specs.declared.search.Below.{Below}
-use Rattle.tree.specs.declared.search.Below.TheVariants as below
-use Rattle.tree.specs.Search.{below_of}
+use Rattle.page.specs.declared.Unsound.{Unsound}
+use Rattle.tree.specs.Search.{unsound, below_of}
 use Rattle.tree.specs.Insert.{frees_in, Rooted, Tops, NewRoots}
 use Rattle.tree.specs.Remove.{Lowered, Lowers}
 use Rattle.model.proofs.Cases.{never}
@@ -95,12 +93,12 @@ module _ (w : List ℕ) (r h : ℕ) where
 -- ---- a new root
 
 -- the lowest free page lies inside
-pub lowest-inside : (w w' : List ℕ) (q : ℕ) → lowest_of (frees_in w) ≡ lowest.Page q → length w' ≡ length w → Inside q w'
+pub lowest-inside : (w w' : List ℕ) (q : ℕ) → lowest_of (frees_in w) ≡ Some q → length w' ≡ length w → Inside q w'
 lowest-inside w w' q first long = omega (arith, lowest-is (map_in w) _ q first)
 
 module _ (levels : ℕ) (e : Entry) (l r : ℕ) {w w₁ : List ℕ} where
   -- no page is free
-  pub roots-none : {a : Lowest} → a ≡ lowest_of (frees_in w) → a ≡ lowest.None → MapBecomes (took (map_in w) a) w w₁ → NewRoots levels e l r w w₁
+  pub roots-none : {a : Option ℕ} → a ≡ lowest_of (frees_in w) → a ≡ None → MapBecomes (took (map_in w) a) w w₁ → NewRoots levels e l r w w₁
   roots-none first none m = record {
     long = m.keeps.long;
     count = touches-word m.keeps 2 (omega arith);
@@ -108,7 +106,7 @@ module _ (levels : ℕ) (e : Entry) (l r : ℕ) {w w₁ : List ℕ} where
   }
 
   -- page q is taken, then written, and then named by the head
-  pub roots-done : {w₂ : List ℕ} {a : Lowest} (q : ℕ) → head_words ≤ length w → a ≡ lowest_of (frees_in w) → a ≡ lowest.Page q → MapBecomes (took (map_in w) a) w w₁
+  pub roots-done : {w₂ : List ℕ} {a : Option ℕ} (q : ℕ) → head_words ≤ length w → a ≡ lowest_of (frees_in w) → a ≡ Some q → MapBecomes (took (map_in w) a) w w₁
       → Holds most levels (alone e l r) (page_in w₂ q) → OnlyPages (q ∷ []) w₁ w₂ → NewRoots levels e l r w (rooted_as (q + 1) (levels + 1) w₂)
   roots-done {w₂} {a} q b first is m holds o =
       let long : length w₂ ≡ length w = o.long ∙ m.keeps.long in
@@ -150,7 +148,7 @@ module _ (w : List ℕ) (old levels : ℕ) where
     lowers = λ none _ c _. absurd (omega arith);
   }
 
-  pub lowers-unsound : {a : Below} → levels ≢ 1 → a ≡ below_of w old 0 → a ≡ below.Unsound → Lowers old levels w w
+  pub lowers-unsound : {a : Result ℕ Unsound} → levels ≢ 1 → a ≡ below_of w old 0 → a ≡ Err unsound → Lowers old levels w w
   lowers-unsound two is none = record {
     long = refl;
     count = refl;
@@ -160,7 +158,7 @@ module _ (w : List ℕ) (old levels : ℕ) where
   }
 
   pub lowers-done : {w' : List ℕ} (r h : ℕ) → count_of (page_in w old) ≡ 0 → head_words ≤ length w → MapBecomes (clear_bit (map_in (rooted_as r h w)) old) (rooted_as r h w) w'
-      → (levels ≡ 1 → (r ≡ 0) × (h ≡ 0)) → (2 ≤ levels → (c : ℕ) → below_of w old 0 ≡ below.Page c → (r ≡ suc c) × (h ≡ levels - 1)) → Lowers old levels w w'
+      → (levels ≡ 1 → (r ≡ 0) × (h ≡ 0)) → (2 ≤ levels → (c : ℕ) → below_of w old 0 ≡ Ok c → (r ≡ suc c) × (h ≡ levels - 1)) → Lowers old levels w w'
   lowers-done {w'} r h none b m one more =
       let done : Lowered r h old w w' = lowered r h old b m in
       let to : (x y : ℕ) → (r ≡ x) × (h ≡ y) → Lowered x y old w w' = λ x y e. subst₂ (λ (x y : ℕ). Lowered x y old w w') e.0 e.1 done in

@@ -9,11 +9,12 @@ use Prim.Native.Nat.{ℕ, suc, pred, ◌+◌, ◌≤◌, ◌<◌}
 use native.Mathlib.Omega.{arith}
 use lib.ListN.{length, take, get_or, set, length-set}
 use borrow.Author.Tests.{eq-eqb, ne_eqb, lt-ltb, le-ltb}
+use Rattle.std.specs.Prelude.{Option, Some, None, Ok}
 use Rattle.model.specs.Basics.{All, tab, ins}
 use Rattle.model.specs.Layout.{head_words, pages_in, word, today}
 use Rattle.model.specs.Head.{geometry_of, levels_word, headed}
 use Rattle.model.specs.PageMap.{bit_at}
-use Rattle.model.specs.Tree.{Entry, no_entry, entry, Tree, Whole, held, meets, times, Formed}
+use Rattle.model.specs.Tree.{Entry, no_entry, Tree, Whole, held, meets, times, Formed}
 use Rattle.model.specs.Standing.{root_of, page_number, Standing}
 use Rattle.model.specs.Path.{gap_pages}
 use Rattle.model.specs.Insert as insertion
@@ -22,15 +23,12 @@ use Rattle.model.specs.Pool.{with_whole, Pool, held_by, free_of, room, pool_of, 
 use Rattle.model.specs.Sound.{Sound}
 use Rattle.model.specs.Written.{Written}
 use Rattle.model.specs.MapCalls.{put_at, crowded}
-use Rattle.pagemap.specs.declared.Lowest.TheVariants as lowest
 use Rattle.pagemap.specs.Lowest.{free_in, lowest_of}
 use Rattle.lend.specs.Touches.{Sized}
 use Rattle.lend.specs.Pages.{least, page_in, map_in}
-use Rattle.tree.specs.declared.insert.Inserted.TheVariants as inserted
 use Rattle.tree.specs.declared.insert.Up.{Up}
-use Rattle.tree.specs.declared.insert.Up.TheVariants as up
 use Rattle.tree.specs.Sits.{PathOf}
-use Rattle.tree.specs.Insert.{frees_in, fresh_in, Needs, up_of, UpStands, Grows, InsertsBelow, NewRoots, Inserts}
+use Rattle.tree.specs.Insert.{full, frees_in, fresh_in, Needs, up_of, UpStands, Grows, InsertsBelow, NewRoots, Inserts}
 use Rattle.model.proofs.Cases.{either-eq, contrary, never}
 use Rattle.model.proofs.Basics.{length-ins, ins-before, all_append, all_left, all_right, all_take, all-at, take-tab, get_or-tab, length-tab, front-word}
 use Rattle.model.proofs.PageMap.{free-same}
@@ -46,6 +44,7 @@ use Rattle.tree.proofs.Sitting.{sound-sits}
 use Rattle.tree.proofs.Paths.{first-page}
 use Rattle.tree.proofs.Heads.{head-page, head-stored}
 use Rattle.tree.proofs.Leaving.{head-word, key-stays, Carries, carries-leaves, leaves-written, written-least, written-bits, written-formed}
+use Rattle.page.specs.Page.{plain}
 
 -- ---- the pool by its words
 
@@ -60,21 +59,25 @@ unfolding free_of
 written-frees {w} {p} a = rw (written-pages a) (free-same (bit_at (map_in w)) (λ q. meets q p.whole) p.pages (λ q _. written-bits a q))
 
 -- what is done with what is handed up: nothing, or a new root over the two halves
-abbrev pub Topped : List ℕ → Up → List ℕ → List ℕ → Type 0
-Topped ps up.Whole w₁ w₂ = w₂ ≡ w₁
-Topped ps (up.Split k v right) w₁ w₂ = NewRoots (length ps) (entry k v) (get_or ps 0 0) right w₁ w₂
+abbrev pub Topped : List ℕ → Option Up → List ℕ → List ℕ → Type 0
+Topped ps None w₁ w₂ = w₂ ≡ w₁
+Topped ps (Some u) w₁ w₂ = NewRoots (length ps) (plain u.entry) (get_or ps 0 0) u.child w₁ w₂
 
-pub topped-long : (ps : List ℕ) (u : Up) (w₁ w₂ : List ℕ) → Topped ps u w₁ w₂ → length w₂ ≡ length w₁
-topped-long ps up.Whole w₁ w₂ e = ap length e
-topped-long ps (up.Split k v right) w₁ w₂ n = n.long
+pub topped-none : (ps : List ℕ) (u : Option Up) (w₁ w₂ : List ℕ) → ((x : Up) → u ≡ Some x → ⊥) → w₂ ≡ w₁ → Topped ps u w₁ w₂
+topped-none ps None w₁ w₂ n e = e
+topped-none ps (Some x) w₁ w₂ n e = absurd (n x refl)
 
-pub topped-count : (ps : List ℕ) (u : Up) (w₁ w₂ : List ℕ) → Topped ps u w₁ w₂ → word w₂ 2 ≡ word w₁ 2
-topped-count ps up.Whole w₁ w₂ e = ap (λ (l : List ℕ). word l 2) e
-topped-count ps (up.Split k v right) w₁ w₂ n = n.count
+pub topped-long : (ps : List ℕ) (u : Option Up) (w₁ w₂ : List ℕ) → Topped ps u w₁ w₂ → length w₂ ≡ length w₁
+topped-long ps None w₁ w₂ e = ap length e
+topped-long ps (Some u) w₁ w₂ n = n.long
+
+pub topped-count : (ps : List ℕ) (u : Option Up) (w₁ w₂ : List ℕ) → Topped ps u w₁ w₂ → word w₂ 2 ≡ word w₁ 2
+topped-count ps None w₁ w₂ e = ap (λ (l : List ℕ). word l 2) e
+topped-count ps (Some u) w₁ w₂ n = n.count
 
 -- ---- a tree that has grown, with its new root
 
-module _ (w₁ w₂ ps : List ℕ) (h k q : ℕ) (first : k ≡ h → lowest_of (frees_in w₁) ≡ lowest.Page q) where
+module _ (w₁ w₂ ps : List ℕ) (h k q : ℕ) (first : k ≡ h → lowest_of (frees_in w₁) ≡ Some q) where
   pub top-carries : (w : List ℕ) (t : Tree h) (o : insertion.Up (Tree h)) → Sized w → length w₁ ≡ length w → take head_words w₁ ≡ take head_words w
       → word w 3 ≡ root_of h t → word w 4 ≡ h → length ps ≡ h → (0 < h → get_or ps 0 0 ≡ page_number h t) → root_of h (up_left o) ≡ root_of h t → Used h o k
       → UpStands w₁ h o → ((p : ℕ) → bit_at (map_in w₁) p ≡ up_times (times p h) o) → Topped ps (up_of h o) w₁ w₂ → Carries w (top q h o) w₂
@@ -135,7 +138,7 @@ module _ (m : ℕ) (x : Whole) (g : ℕ) where
 
 module _ (w : List ℕ) (P : Pool) (r : Right P) (a : Written w P) (g : ℕ) (e : Entry) (b : g ≤ length (held_by P))
     (sized : Sized w) (enough : needed least P.whole g ≤ length (frees_in w))
-    (ps w₁ w₂ : List ℕ) (u : Up) (path : ps ≡ gap_pages P.whole.levels P.whole.tree g) (many : length ps ≡ P.whole.levels)
+    (ps w₁ w₂ : List ℕ) (u : Option Up) (path : ps ≡ gap_pages P.whole.levels P.whole.tree g) (many : length ps ≡ P.whole.levels)
     (grows : Grows w P.whole.levels P.whole.tree g e w₁ u) (topped : Topped ps u w₁ w₂) where
   abbrev h : ℕ
   h = P.whole.levels
@@ -149,9 +152,9 @@ module _ (w : List ℕ) (P : Pool) (r : Right P) (a : Written w P) (g : ℕ) (e 
   abbrev o : insertion.Up (Tree h)
   o = insert_at least (fresh_in w) h t g e
 
-  first : k ≡ h → lowest_of (frees_in w₁) ≡ lowest.Page (fresh_in w h)
+  first : k ≡ h → lowest_of (frees_in w₁) ≡ Some (fresh_in w h)
   first e =
-      let there : lowest_of (free_in (map_in w₁) (pages_in today (length w))) ≡ lowest.Page (fresh_in w k) =
+      let there : lowest_of (free_in (map_in w₁) (pages_in today (length w))) ≡ Some (fresh_in w k) =
       lowest-kth (map_in w₁) (bit_at (map_in w)) (pages_in today (length w)) k grows.bits (omega (arith, needed-top least P.whole g e)) in
       rw grows.touches.long (rw e at there)
 
@@ -213,7 +216,7 @@ module _ (w ps : List ℕ) (k g : ℕ) (needs : Needs w ps k) (sound : Sound w) 
   pub crowded-room : k ≤ length (frees_in w) → crowded g (pool_of w) ≡ false
   crowded-room l = le-ltb (room (pool_of w)) (needed (least_by (pool_of w)) (pool_of w).whole g) (omega (arith, pool-needed, pages-free))
 
-pub inserts-full : (w ps ss : List ℕ) (e : Entry) (k : ℕ) → Needs w ps k → length (frees_in w) < k → Inserts w ps ss e w inserted.Full
+pub inserts-full : (w ps ss : List ℕ) (e : Entry) (k : ℕ) → Needs w ps k → length (frees_in w) < k → Inserts w ps ss e w full
 inserts-full w ps ss e k needs none = record {
   long = refl;
   kept = λ _. refl;
@@ -222,8 +225,8 @@ inserts-full w ps ss e k needs none = record {
   others = λ _ _ _ _ _ _ _. refl;
 }
 
-pub inserts-done : (w ps ss : List ℕ) (e : Entry) (k : ℕ) (w₁ : List ℕ) (u : Up) (w₂ : List ℕ) → headed w ≡ true → length ps ≡ levels_word w → Needs w ps k
-    → k ≤ length (frees_in w) → InsertsBelow w ps ss e w₁ u → Topped ps u w₁ w₂ → Inserts w ps ss e (set w₂ 2 (word w₂ 2 + 1)) inserted.Done
+pub inserts-done : (w ps ss : List ℕ) (e : Entry) (k : ℕ) (w₁ : List ℕ) (u : Option Up) (w₂ : List ℕ) → headed w ≡ true → length ps ≡ levels_word w → Needs w ps k
+    → k ≤ length (frees_in w) → InsertsBelow w ps ss e w₁ u → Topped ps u w₁ w₂ → Inserts w ps ss e (set w₂ 2 (word w₂ 2 + 1)) (Ok tt)
 unfolding held meets
 inserts-done w ps ss e k w₁ u w₂ fits many needs enough below topped = record {
   long = length-set w₂ 2 (word w₂ 2 + 1) ∙ topped-long ps u w₁ w₂ topped ∙ below.long;

@@ -13,9 +13,8 @@ use Rattle.model.specs.Basics.{All, final, sum, every}
 use Rattle.model.specs.Layout.{pages_in, today}
 use Rattle.model.specs.Head.{kind_word}
 use Rattle.model.specs.Tree.{Entry, no_entry, weave, Rising}
-use Rattle.tree.specs.declared.check.Tally.{Tally}
-use Rattle.tree.specs.declared.check.Tally.TheVariants as tally
-use Rattle.tree.specs.Check.{key_rises, value_fits, entry_tests, over_entry, in_turn}
+use Rattle.std.specs.Prelude.{Ok, Err}
+use Rattle.tree.specs.Check.{key_rises, value_fits, entry_tests, Said, told, broken, over_entry, in_turn}
 use Rattle.model.proofs.Cases.{either, either_lt, either-eq, contrary}
 use Rattle.model.proofs.Basics.{all_append, all_left, all_right, all-at, every_true, every-all, final-at, final-append}
 use Rattle.model.proofs.Entries.{rising-left, rising-lo, rising-around}
@@ -33,24 +32,24 @@ pub record Follows (w : List ℕ) (pages : ℕ) (es : List Entry) (n : ℕ) (xs 
   pub zeros : kind_word w ≡ 1 → All (λ e. e.value ≡ 0) xs
 
 -- the walk goes through exactly where G holds, and has then met n pages and the entries es
-abbrev pub Goes : Type 0 → ℕ → List Entry → Tally → Type 0
-Goes G n es (tally.Of a b k) = G × (a ≡ n) × Met es b k
-Goes G n es tally.Broken = G → ⊥
+abbrev pub Goes : Type 0 → ℕ → List Entry → Said → Type 0
+Goes G n es (Ok t) = G × (t.pages ≡ n) × Met es t.entries t.last
+Goes G n es (Err u) = G → ⊥
 
-pub goes_map : (G H : Type 0) (n : ℕ) (es : List Entry) (r : Tally) → (G → H) → (H → G) → Goes G n es r → Goes H n es r
-goes_map G H n es (tally.Of a b k) f g x = (f x.0, x.1, x.2)
-goes_map G H n es tally.Broken f g x = λ y. x (g y)
+pub goes_map : (G H : Type 0) (n : ℕ) (es : List Entry) (r : Said) → (G → H) → (H → G) → Goes G n es r → Goes H n es r
+goes_map G H n es (Ok t) f g x = (f x.0, x.1, x.2)
+goes_map G H n es (Err u) f g x = λ y. x (g y)
 
-pub goes-as : (G : Type 0) (n n' : ℕ) (es es' : List Entry) (r : Tally) → n ≡ n' → es ≡ es' → Goes G n es r → Goes G n' es' r
+pub goes-as : (G : Type 0) (n n' : ℕ) (es es' : List Entry) (r : Said) → n ≡ n' → es ≡ es' → Goes G n es r → Goes G n' es' r
 goes-as G n n' es es' r p q x = subst (λ (z : ℕ). Goes G z es' r) p (subst (λ (z : List Entry). Goes G n z r) q x)
 
 -- one step after another
-goes_then : (G₁ G₂ G : Type 0) (n₁ n₂ : ℕ) (es₁ es₂ : List Entry) (step : Tally → Tally) → step tally.Broken ≡ tally.Broken → (r : Tally) → Goes G₁ n₁ es₁ r
-    → ((b k : ℕ) → G₁ → Met es₁ b k → Goes G₂ n₂ es₂ (step (tally.Of n₁ b k))) → (G → G₁ × G₂) → (G₁ → G₂ → G) → Goes G n₂ es₂ (step r)
-goes_then G₁ G₂ G n₁ n₂ es₁ es₂ step stop (tally.Of a b k) x after split join =
-    goes_map G₂ G n₂ es₂ (step (tally.Of a b k)) (join x.0) (λ g. (split g).1)
-    (subst (λ (z : ℕ). Goes G₂ n₂ es₂ (step (tally.Of z b k))) (sym x.1) (after b k x.0 x.2))
-goes_then G₁ G₂ G n₁ n₂ es₁ es₂ step stop tally.Broken x after split join = subst (Goes G n₂ es₂) (sym stop) (λ (g : G). x (split g).0)
+goes_then : (G₁ G₂ G : Type 0) (n₁ n₂ : ℕ) (es₁ es₂ : List Entry) (step : Said → Said) → step broken ≡ broken → (r : Said) → Goes G₁ n₁ es₁ r
+    → ((b k : ℕ) → G₁ → Met es₁ b k → Goes G₂ n₂ es₂ (step (told n₁ b k))) → (G → G₁ × G₂) → (G₁ → G₂ → G) → Goes G n₂ es₂ (step r)
+goes_then G₁ G₂ G n₁ n₂ es₁ es₂ step stop (Ok t) x after split join =
+    goes_map G₂ G n₂ es₂ (step (Ok t)) (join x.0) (λ g. (split g).1)
+    (subst (λ (z : ℕ). Goes G₂ n₂ es₂ (step (told z t.entries t.last))) (sym x.1) (after t.entries t.last x.0 x.2))
+goes_then G₁ G₂ G n₁ n₂ es₁ es₂ step stop (Err u) x after split join = subst (Goes G n₂ es₂) (sym stop) (λ (g : G). x (split g).0)
 
 -- ---- keys that rise to the last
 
@@ -143,7 +142,7 @@ module _ (w : List ℕ) where
           (fits-value e.value (λ s. (f.zeros s).0), tt),
         )
 
-    entry-goes : Goes (Follows w a es 0 (e ∷ [])) a (es ++ e ∷ []) (over_entry w e (tally.Of a b k))
+    entry-goes : Goes (Follows w a es 0 (e ∷ [])) a (es ++ e ∷ []) (over_entry w e (told a b k))
     unfolding over_entry
     entry-goes =
         let count = m.count in
@@ -162,24 +161,24 @@ module _ (w : List ℕ) where
   -- ---- children and entries in turn. `f` says how a child is walked, `inside` what it holds, `size` its pages, `L`
   -- that it stands right
 
-  module _ (f : ℕ → Tally → Tally) (stop : (c : ℕ) → f c tally.Broken ≡ tally.Broken) where
-    pub turn-stop : (cs : List ℕ) (os : List Entry) → in_turn w f cs os tally.Broken ≡ tally.Broken
+  module _ (f : ℕ → Said → Said) (stop : (c : ℕ) → f c broken ≡ broken) where
+    pub turn-stop : (cs : List ℕ) (os : List Entry) → in_turn w f cs os broken ≡ broken
     unfolding in_turn over_entry
     turn-stop [] os = refl
     turn-stop (c ∷ cs) [] = stop c
     turn-stop (c ∷ cs) (e ∷ os) = rw (stop c) (turn-stop cs os)
 
     module _ (inside : ℕ → List Entry) (size : ℕ → ℕ) (L : ℕ → Type 0) (one : (c a b k : ℕ) (es : List Entry) → a ≤ pages_in today (length w) → Met es b k
-        → Goes (L c × Follows w a es (size c) (inside c)) (a + size c) (es ++ inside c) (f c (tally.Of a b k))) where
+        → Goes (L c × Follows w a es (size c) (inside c)) (a + size c) (es ++ inside c) (f c (told a b k))) where
       pub turn-goes : (cs : List ℕ) (os : List Entry) (a b k : ℕ) (es : List Entry) → length cs ≡ suc (length os) → a ≤ pages_in today (length w) → Met es b k
           → Goes (All L cs × Follows w a es (sum size cs) (weave inside cs os)) (a + sum size cs) (es ++ weave inside cs os)
-          (in_turn w f cs os (tally.Of a b k))
+          (in_turn w f cs os (told a b k))
       unfolding in_turn over_entry
       turn-goes [] os a b k es q l m = absurd (omega arith)
       turn-goes (c ∷ []) [] a b k es q l m =
           rw (add-zero (size c))
           (goes_map (L c × Follows w a es (size c) (inside c)) ((L c × Unit {0}) × Follows w a es (size c) (inside c)) (a + size c) (es ++ inside c)
-          (f c (tally.Of a b k)) (λ x. ((x.0, tt), x.1)) (λ x. (x.0.0, x.1)) (one c a b k es l m))
+          (f c (told a b k)) (λ x. ((x.0, tt), x.1)) (λ x. (x.0.0, x.1)) (one c a b k es l m))
       turn-goes (c ∷ c' ∷ cs) [] a b k es q l m = absurd (omega arith)
       turn-goes (c ∷ cs) (e ∷ os) a b k es q l m =
           let xs = inside c in
@@ -191,12 +190,12 @@ module _ (w : List ℕ) where
           let Rest = All L cs × Follows w a' ((es ++ xs) ++ e ∷ []) n ys in
           goes_then Child (One × Rest) (All L (c ∷ cs) × Follows w a es (size c + n) (xs ++ e ∷ ys)) a' (a + (size c + n)) (es ++ xs) (es ++ (xs ++ e ∷ ys))
           (λ r. in_turn w f cs os (over_entry w e r)) (turn-stop cs os)
-          (f c (tally.Of a b k)) (one c a b k es l m)
+          (f c (told a b k)) (one c a b k es l m)
           (λ b₁ k₁ g₁ m₁.
           goes_then One Rest (One × Rest) a' (a + (size c + n)) ((es ++ xs) ++ e ∷ []) (es ++ (xs ++ e ∷ ys)) (λ r. in_turn w f cs os r) (turn-stop cs os)
-          (over_entry w e (tally.Of a' b₁ k₁)) (entry-goes e a' b₁ k₁ (es ++ xs) g₁.1.few m₁)
+          (over_entry w e (told a' b₁ k₁)) (entry-goes e a' b₁ k₁ (es ++ xs) g₁.1.few m₁)
           (λ b₂ k₂ g₂ m₂.
-          goes-as Rest (a' + n) (a + (size c + n)) (((es ++ xs) ++ e ∷ []) ++ ys) (es ++ (xs ++ e ∷ ys)) (in_turn w f cs os (tally.Of a' b₂ k₂))
+          goes-as Rest (a' + n) (a + (size c + n)) (((es ++ xs) ++ e ∷ []) ++ ys) (es ++ (xs ++ e ∷ ys)) (in_turn w f cs os (told a' b₂ k₂))
           (omega arith) (simp append_assoc) (turn-goes cs os a' b₂ k₂ ((es ++ xs) ++ e ∷ []) (omega arith) g₁.1.few m₂))
           (λ g. g) (λ x y. (x, y)))
           (λ g.

@@ -11,6 +11,7 @@ use lib.Dec.{leb, ltb}
 use lib.ListN.{length, take, drop, get_or, length-map, length-take, length-drop}
 use lib.Seq.{get_or-take, get_or-drop}
 use borrow.Author.Tests.{le-leb, lt-ltb, ne_eqb}
+use Rattle.std.specs.Prelude.{Ok, Result}
 use Rattle.model.specs.Basics.{sum, same, All, every}
 use Rattle.model.specs.Layout.{pages_in, today}
 use Rattle.model.specs.PageMap.{bit_at}
@@ -20,11 +21,9 @@ use Rattle.model.specs.Standing.{page_number, Standing}
 use Rattle.model.specs.Mend.{Plan, keep, move, join, plan, node_at, count, mend}
 use Rattle.model.specs.Freed.{spare}
 use Rattle.model.specs.Remove.{plan_at}
-use Rattle.page.specs.declared.Change.{Change}
 use Rattle.page.specs.Page.{holds_at, room_at}
 use Rattle.lend.specs.Pages.{least, most, are_apart, can_give, can_get, can_pass, can_join, MovesIn, page_in, map_in}
 use Rattle.tree.specs.declared.remove.Mending.TheVariants as mending
-use Rattle.tree.specs.declared.search.Below.TheVariants as below
 use Rattle.tree.specs.Search.{below_of}
 use Rattle.tree.specs.Insert.{Marked}
 use Rattle.tree.specs.Remove.{count_below, Plans, MovesLeft, MovesRight, Joined, JoinsBelow, near, Mended, Mends}
@@ -38,6 +37,7 @@ use Rattle.lend.proofs.Touching.{touches_none, touches-wider, only-touches, only
 use Rattle.tree.proofs.Saying.{root-count, child-stands, child-found}
 use Rattle.tree.proofs.Planning.{count-found, plan-same, Acts, plan-acts}
 use Rattle.tree.proofs.Pairs.{pair-met, pair-apart, moved-stands, joined-stands}
+use Rattle.page.specs.declared.Unsound.{Unsound}
 
 -- child i and its neighbours are near child i
 near-at : {S : Type 0} (P : ℕ → Type 0) (f : S → ℕ) (i j : ℕ) (l : List S) (d : S) → i ≤ suc j → j ≤ suc i → j < length l → All P (map f (near i l)) → P (f (get_or l j d))
@@ -69,7 +69,7 @@ module _ (w : List ℕ) (h : ℕ) (t : Tree (suc (suc h))) (i : ℕ) (stands : S
   once : (q : ℕ) → times q (suc (suc h)) t ≤ 1
   once q = omega (arith, marked q, bit_at-le (map_in w) q)
 
-  child-below : (j : ℕ) → j ≤ length t.own → below_of w t.page j ≡ below.Page (node_at t j).page
+  child-below : (j : ℕ) → j ≤ length t.own → below_of w t.page j ≡ Ok (node_at t j).page
   child-below j b = child-found w (suc h) t stands forks j b (omega arith) (omega arith) inside
 
   -- a child's count by its own words, and by the page's
@@ -175,7 +175,7 @@ module _ (w : List ℕ) (h : ℕ) (t : Tree (suc (suc h))) (i : ℕ) (stands : S
     touches = touches_none (t.page ∷ map (page_number (suc h)) (near i t.children)) refl;
   }
 
-  moved-mended : (j n : ℕ) {w' : List ℕ} {a : Change} → move j n ≡ plan_at least h t i
+  moved-mended : (j n : ℕ) {w' : List ℕ} {a : Result (Unit {0}) Unsound} → move j n ≡ plan_at least h t i
       → MovesIn t.page j (node_at t j).page (node_at t (suc j)).page n true w w' a → Mended h t i w w'
   unfolding spare
   moved-mended j n {w'} e m =

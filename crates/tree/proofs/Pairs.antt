@@ -15,7 +15,6 @@ use Rattle.model.specs.Tree.{Entry, Tree, no_entry, no_node, times}
 use Rattle.model.specs.Standing.{page_number, Standing}
 use Rattle.model.specs.Insert.{cut_left, cut_right}
 use Rattle.model.specs.Mend.{move, join, node_at, pair, mend}
-use Rattle.page.specs.declared.Change.{Change}
 use Rattle.lend.specs.Pages.{least, glued, MovesIn, page_in}
 use Rattle.tree.specs.Remove.{Joined}
 use Rattle.model.proofs.Cases.{same_self, same-zero}
@@ -23,6 +22,8 @@ use Rattle.model.proofs.Basics.{split-two, all_append, all_take, all_drop, map-d
 use Rattle.model.proofs.Sums.{sum-append}
 use Rattle.model.proofs.Standing.{all-standing}
 use Rattle.tree.proofs.Saying.{Says, says_holds, says-glue, says-left, says-right, root-holds, root_below, root-says, child-stands}
+use Rattle.std.specs.Prelude.{Result}
+use Rattle.page.specs.declared.Unsound.{Unsound}
 
 -- ---- two neighbours
 
@@ -111,7 +112,7 @@ module _ (w : List ℕ) (h : ℕ) (t : Tree (suc (suc h))) (stands : Standing le
         (all-standing least (page_in w) (page_in w') h (node_at t (suc j)).children (λ q l. kept-around q (omega arith)) (root_below w h (node_at t (suc j)) right-stands))
 
   -- one entry moved
-  pub moved-stands : (n : ℕ) {w' : List ℕ} {a : Change} → MovesIn t.page j (node_at t j).page (node_at t (suc j)).page n true w w' a
+  pub moved-stands : (n : ℕ) {w' : List ℕ} {a : Result (Unit {0}) Unsound} → MovesIn t.page j (node_at t j).page (node_at t (suc j)).page n true w w' a
       → Standing least (page_in w') (suc (suc h)) (mend (move j n) t)
   unfolding Standing mend
   moved-stands n {w'} m =

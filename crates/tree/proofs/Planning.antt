@@ -6,18 +6,18 @@ use mathlib.Core.List.{List}
 use Prim.Native.Nat.{ℕ, zero, suc, ◌-◌, ◌≤◌, ◌<◌}
 use native.Mathlib.Omega.{arith}
 use borrow.Author.Tests.{lt-ltb, le-ltb, le-leb, lt-leb}
+use Rattle.std.specs.Prelude.{Ok, Err}
 use Rattle.model.specs.Page.{count_of}
 use Rattle.model.specs.Mend.{Plan, keep, move, join, from_right, repair, plan}
 use Rattle.lend.specs.Pages.{least, page_in}
-use Rattle.tree.specs.declared.search.Below.TheVariants as below
-use Rattle.tree.specs.Search.{below_of}
+use Rattle.tree.specs.Search.{unsound, below_of}
 use Rattle.tree.specs.Remove.{count_by, count_below}
 use Rattle.model.proofs.Cases.{either-le, either_lt}
 
-pub count-found : (w : List ℕ) (u at c : ℕ) → below_of w u at ≡ below.Page c → count_below w u at ≡ count_of (page_in w c)
+pub count-found : (w : List ℕ) (u at c : ℕ) → below_of w u at ≡ Ok c → count_below w u at ≡ count_of (page_in w c)
 count-found w u at c e = ap (count_by w) e
 
-pub count-lost : (w : List ℕ) (u at : ℕ) → below_of w u at ≡ below.Unsound → count_below w u at ≡ 0
+pub count-lost : (w : List ℕ) (u at : ℕ) → below_of w u at ≡ Err unsound → count_below w u at ≡ 0
 count-lost w u at e = ap (count_by w) e
 
 -- ---- what the plan comes to
@@ -55,17 +55,12 @@ unfolding repair
 repair-right m n count zero poor h rich = from-right m n count zero (join zero) h rich
 repair-right m n count (suc j) poor h rich = rw (le-ltb m (count j) (poor j refl)) (from-right m n count (suc j) (join j) h rich)
 
-pub repair-join : (m n : ℕ) (count : ℕ → ℕ) (i j : ℕ) → suc j ≡ i → PoorLeft m n count i → PoorRight m n count i → join j ≡ repair m n count i
+pub repair-last : (m n : ℕ) (count : ℕ → ℕ) (i j : ℕ) → j ≡ i - 1 → PoorLeft m n count i → PoorRight m n count i → join j ≡ repair m n count i
 unfolding repair
-repair-join m n count zero j e left right = absurd (omega arith)
-repair-join m n count (suc k) j e left right =
+repair-last m n count zero j e left right = let none : j ≡ 0 = omega arith in rw none (from-none m n count zero (join zero) right)
+repair-last m n count (suc k) j e left right =
     let same : j ≡ k = omega arith in
     rw (le-ltb m (count k) (left k refl), same) (from-none m n count (suc k) (join k) right)
-
-pub repair-first : (m n : ℕ) (count : ℕ → ℕ) (i : ℕ) → i ≡ 0 → PoorRight m n count i → join 0 ≡ repair m n count i
-unfolding repair
-repair-first m n count zero e right = from-none m n count zero (join zero) right
-repair-first m n count (suc j) e right = absurd (omega arith)
 
 -- ---- it asks the counts of the page's own children only
 

@@ -9,6 +9,7 @@ use Prim.Native.Nat.{ℕ, zero, suc, ◌+◌, ◌-◌, ◌/◌, ◌≤◌, ◌<�
 use native.Mathlib.Omega.{arith}
 use lib.ListN.{length, take, get_or, set, length-set}
 use borrow.Author.Tests.{le-leb, lt-leb}
+use Rattle.std.specs.Prelude.{Option, Ok, Err}
 use Rattle.model.specs.Basics.{All, sum, same, del}
 use Rattle.model.specs.Layout.{head_words, pages_in, word, today}
 use Rattle.model.specs.Head.{count_word, levels_word, headed}
@@ -21,10 +22,9 @@ use Rattle.model.specs.Remove.{remove_at, collapse, remove_in, remove}
 use Rattle.model.specs.Freed.{freed_at}
 use Rattle.model.specs.Pool.{held_by, pool_of}
 use Rattle.model.specs.Sound.{Sound}
-use Rattle.page.specs.declared.Change.TheVariants as change
+use Rattle.page.specs.declared.Entry as lent
 use Rattle.lend.specs.Touches.{Sized}
 use Rattle.lend.specs.Pages.{least, page_in, map_in}
-use Rattle.tree.specs.declared.remove.Gone.{Gone}
 use Rattle.tree.specs.Sits.{PathOf, Sits, AtEntry}
 use Rattle.tree.specs.Remove.{near_in, RemovesBelow, CanRemove, Lowered, Lowers, Removes}
 use Rattle.model.proofs.Cases.{contrary, either-le, never}
@@ -107,7 +107,7 @@ module _ (w₁ w₂ : List ℕ) (h : ℕ) (t : Tree (suc h)) (stands : Standing 
 
 -- ---- a tree that has shrunk along a path, and its root
 
-pub remove-carries : (w ps ss w₁ w₂ : List ℕ) (u : Gone) (h : ℕ) (t : Tree h) (g : ℕ) → Sits w 1 h t → g < size h t → PathOf h t g ps ss → length ps ≡ h → Sized w
+pub remove-carries : (w ps ss w₁ w₂ : List ℕ) (u : Option lent.Entry) (h : ℕ) (t : Tree h) (g : ℕ) → Sits w 1 h t → g < size h t → PathOf h t g ps ss → length ps ≡ h → Sized w
     → word w 3 ≡ root_of h t → word w 4 ≡ h → ((q : ℕ) → bit_at (map_in w) q ≡ times q h t) → RemovesBelow w ps ss w₁ u → Lowers (get_or ps 0 0) (length ps) w₁ w₂
     → Carries w (remove_in least h t g) w₂ × ((q : ℕ) → All (λ p. q ≢ p) (near_in h t g) → page_in w₂ q ≡ page_in w q)
 unfolding remove_in entries
@@ -138,7 +138,7 @@ count-some w e l = either-le 1 (count_word w) (λ b. b) (λ b. absurd (omega (ar
 
 -- where it is not done, the pool is not sound
 pub removes-none : (w ps ss : List ℕ)
-    → AtEntry w ps ss (λ g. ⊥) → Removes w ps ss w change.Unsound
+    → AtEntry w ps ss (λ g. ⊥) → Removes w ps ss w (Err (record {}))
 removes-none w ps ss never = record {
   long = refl;
   kept = λ _. refl;
@@ -147,14 +147,14 @@ removes-none w ps ss never = record {
   others = λ _ _ _ _ _ _. refl;
 }
 
-pub removes-refused : (w ps ss : List ℕ) (r : Bool) → CanRemove w ps ss r → r ≡ false → Removes w ps ss w change.Unsound
+pub removes-refused : (w ps ss : List ℕ) (r : Bool) → CanRemove w ps ss r → r ≡ false → Removes w ps ss w (Err (record {}))
 unfolding held
 removes-refused w ps ss r can cannot =
     removes-none w ps ss
     (λ g sound b path. contrary (can 1 (pool_of w).whole.levels (pool_of w).whole.tree g (sound-sits w sound) (omega arith) path) cannot)
 
-pub removes-done : (w ps ss w₁ w₂ : List ℕ) (u : Gone) → headed w ≡ true → length ps ≡ levels_word w → RemovesBelow w ps ss w₁ u
-    → Lowers (get_or ps 0 0) (length ps) w₁ w₂ → Removes w ps ss (set w₂ 2 (word w₂ 2 - 1)) change.Done
+pub removes-done : (w ps ss w₁ w₂ : List ℕ) (u : Option lent.Entry) → headed w ≡ true → length ps ≡ levels_word w → RemovesBelow w ps ss w₁ u
+    → Lowers (get_or ps 0 0) (length ps) w₁ w₂ → Removes w ps ss (set w₂ 2 (word w₂ 2 - 1)) (Ok tt)
 unfolding held meets remove
 removes-done w ps ss w₁ w₂ u fits many below lowers = record {
   long = length-set w₂ 2 (word w₂ 2 - 1) ∙ lowers.long ∙ below.long;

@@ -8,6 +8,7 @@ use Prim.Native.Nat.{ℕ, zero, suc, ◌≤◌, ◌<◌}
 use native.Mathlib.Omega.{arith}
 use lib.ListN.{length, take, drop, get_or}
 use borrow.Author.Tests.{le-leb, lt-ltb}
+use Rattle.std.specs.Prelude.{Ok}
 use Rattle.model.specs.Basics.{All}
 use Rattle.model.specs.Layout.{pages_in, today}
 use Rattle.model.specs.Tree.{Entry, Node, Tree, no_tree, times}
@@ -17,7 +18,6 @@ use Rattle.model.specs.Gap.{child}
 use Rattle.model.specs.Insert.{cut_left, cut_right}
 use Rattle.model.specs.Mend.{glue}
 use Rattle.lend.specs.Pages.{least, most, node_in, page_in}
-use Rattle.tree.specs.declared.search.Below.TheVariants as below
 use Rattle.tree.specs.Search.{below_of}
 use Rattle.model.proofs.Basics.{all-at, map-take, map-drop, get_or_map}
 use Rattle.model.proofs.Gap.{times-page, times-child}
@@ -80,7 +80,7 @@ module _ (w : List ℕ) (h : ℕ) (t : Tree (suc h)) (stands : Standing least (p
         ∙ get_or_map (page_number h) t.children i (no_tree h) 0 (omega arith)
 
     -- and it is answered
-    pub child-found : 0 < h → i ≤ most → ((q : ℕ) → 0 < times q (suc h) t → q < pages_in today (length w)) → below_of w t.page i ≡ below.Page (page_number h (child h t i))
+    pub child-found : 0 < h → i ≤ most → ((q : ℕ) → 0 < times q (suc h) t → q < pages_in today (length w)) → below_of w t.page i ≡ Ok (page_number h (child h t i))
     unfolding below_of
     child-found l few inside =
         let c : ℕ = page_number h (child h t i) in

@@ -2,13 +2,15 @@
 -- filled from the front; and the path found in a whole pool.
 -- Assumes nothing.
 use mathlib.Core.Path.{◌≡◌, refl, sym, ap, ap₂, subst, ◌∙◌}
-use mathlib.Core.Bool.{Bool, true, false}
-use mathlib.Core.Option.{Option}
+use mathlib.Core.Bool.{Bool}
+use mathlib.Core.Logic.{◌≢◌}
+use mathlib.Core.Option as pure
 use mathlib.Core.List.{List, [], ◌∷◌, ◌++◌, append_assoc}
-use Prim.Native.Nat.{ℕ, zero, suc, pred, ◌+◌, ◌-◌, ◌<◌}
+use Prim.Native.Nat.{ℕ, zero, suc, pred, ◌+◌, ◌-◌, ◌≤◌, ◌<◌}
 use native.Mathlib.Omega.{arith}
-use lib.ListN.{length, take, drop, get_or, set, length-drop, take-append-drop}
+use lib.ListN.{length, take, drop, get_or, set, length-drop, length-set, take-append-drop}
 use lib.Seq.{drop-cons, set_split, drop-set-lt, take-suc-set}
+use Rattle.std.specs.Prelude.{Option, None, Result, Ok, Err, ⊤}
 use Rattle.model.specs.Head.{root_word, levels_word}
 use Rattle.model.specs.Tree.{Tree, entries, Rising, held, Formed}
 use Rattle.model.specs.Standing.{root_of, page_number}
@@ -20,26 +22,25 @@ use Rattle.model.specs.MapCalls.{pages_read}
 use Rattle.lend.specs.Pages.{least, Inside}
 use Rattle.tree.specs.declared.search.Aim.{Aim}
 use Rattle.tree.specs.declared.search.Aim.TheVariants.{Before, After, Start, End}
-use Rattle.tree.specs.declared.search.Below.TheVariants as below
-use Rattle.tree.specs.declared.search.Got.{Got}
-use Rattle.tree.specs.declared.search.Got.TheVariants as got
-use Rattle.page.specs.declared.Slot.TheVariants as slot
+use Rattle.page.specs.declared.Unsound.{Unsound}
+use Rattle.tree.specs.declared.search.Found.{Found}
 use Rattle.tree.specs.Sits.{PathIn, PathOf, Sits, From}
-use Rattle.tree.specs.Search.{below_of, slot_by, aimed, got_by, got_found, GetsBelow, Gets, SeeksBelow, Seeks}
-use Rattle.model.proofs.Cases.{contrary, never}
+use Rattle.tree.specs.Search.{unsound, below_of, slot_by, aimed, got_by, got_found, GetsBelow, Gets, SeeksBelow, Seeks}
+use Rattle.model.proofs.Cases.{never}
 use Rattle.model.proofs.Entries.{Falls, falls_below, falls-up-to, gap-le}
 use Rattle.model.proofs.Search.{seek_child, seek-rising, seek-pages, seek-slots, found-held}
 use Rattle.model.proofs.Right.{sound-right}
 use Rattle.model.proofs.Written.{sound-written}
+use Rattle.lend.proofs.Lent.{page-inside}
 use Rattle.tree.proofs.Sitting.{sits-child, sits-below, sound-sits}
-use Rattle.tree.proofs.Searching.{slot-few, sits-slot}
+use Rattle.tree.proofs.Searching.{below-inside, slot-few, sits-slot}
 
 module _ (w : List ℕ) (p : ℕ) (aim : Aim) where
   -- the path that is to be found
-  abbrev Finds : Bool → List ℕ → List ℕ → (h : ℕ) → Tree (suc h) → Type 0
-  Finds r ps ss h t = (r ≡ true) × (ps ≡ seek_pages (aimed aim) (suc h) t) × (ss ≡ seek_slots (aimed aim) (suc h) t)
+  abbrev Finds : Result ⊤ Unsound → List ℕ → List ℕ → (h : ℕ) → Tree (suc h) → Type 0
+  Finds r ps ss h t = (r ≡ Ok tt) × (ps ≡ seek_pages (aimed aim) (suc h) t) × (ss ≡ seek_slots (aimed aim) (suc h) t)
 
-  seeks : {ps ss ps' ss' : List ℕ} {r : Bool} → length ps' ≡ length ps → length ss' ≡ length ss → (r ≡ true → PathIn w ps' ss')
+  seeks : {ps ss ps' ss' : List ℕ} {r : Result ⊤ Unsound} → length ps' ≡ length ps → length ss' ≡ length ss → (r ≡ Ok tt → PathIn w ps' ss')
       → From w p (length ps) (Finds r ps' ss') → SeeksBelow w p aim ps ss ps' ss' r
   seeks a b c d = record {
     pages = a;
@@ -52,51 +53,51 @@ module _ (w : List ℕ) (p : ℕ) (aim : Aim) where
 
   -- no tree sits there
   seeks-none : {ps ss ps' ss' : List ℕ} → length ps' ≡ length ps → length ss' ≡ length ss → From w p (length ps) (λ h t. ⊥)
-      → SeeksBelow w p aim ps ss ps' ss' false
-  seeks-none a b d = seeks a b (λ e. contrary e refl) (λ low h t n s r q. absurd (d low h t n s r q))
+      → SeeksBelow w p aim ps ss ps' ss' (Err unsound)
+  seeks-none a b d = seeks a b (λ e. never (cc)) (λ low h t n s r q. absurd (d low h t n s r q))
 
   -- the page's slot, as its words have it, is the tree's
-  slot_is : (n i : ℕ) → slot_by w p n (aimed aim) ≡ slot.At i → From w p (suc n) (λ h t. gap_of (aimed aim) t.own ≡ i)
+  slot_is : (n i : ℕ) → slot_by w p n (aimed aim) ≡ Ok i → From w p (suc n) (λ h t. gap_of (aimed aim) t.own ≡ i)
   slot_is n i e low h t k s r q =
       let n-is-h : n ≡ h = omega arith in
-      let at : slot_by w p h (aimed aim) ≡ slot.At i = subst (λ m. slot_by w p m (aimed aim) ≡ slot.At i) n-is-h e in
-      let here : slot_by w p h (aimed aim) ≡ slot.At (gap_of (aimed aim) t.own) = rw (← q) (sits-slot w low h t s (aimed aim)) in
+      let at : slot_by w p h (aimed aim) ≡ Ok i = subst (λ m. slot_by w p m (aimed aim) ≡ Ok i) n-is-h e in
+      let here : slot_by w p h (aimed aim) ≡ Ok (gap_of (aimed aim) t.own) = rw (← q) (sits-slot w low h t s (aimed aim)) in
       cc
 
-  slot-never : (n : ℕ) → slot_by w p n (aimed aim) ≡ slot.Unsound → From w p (suc n) (λ h t. ⊥)
+  slot-never : (n : ℕ) → slot_by w p n (aimed aim) ≡ Err unsound → From w p (suc n) (λ h t. ⊥)
   slot-never n e low h t k s r q =
       let n-is-h : n ≡ h = omega arith in
-      let at : slot_by w p h (aimed aim) ≡ slot.Unsound = subst (λ m. slot_by w p m (aimed aim) ≡ slot.Unsound) n-is-h e in
-      let here : slot_by w p h (aimed aim) ≡ slot.At (gap_of (aimed aim) t.own) = rw (← q) (sits-slot w low h t s (aimed aim)) in
+      let at : slot_by w p h (aimed aim) ≡ Err unsound = subst (λ m. slot_by w p m (aimed aim) ≡ Err unsound) n-is-h e in
+      let here : slot_by w p h (aimed aim) ≡ Ok (gap_of (aimed aim) t.own) = rw (← q) (sits-slot w low h t s (aimed aim)) in
       never (cc)
 
-  seek-unsound : (n : ℕ) (ps ss : List ℕ) → suc n ≡ length ps → slot_by w p n (aimed aim) ≡ slot.Unsound → SeeksBelow w p aim ps ss ps ss false
+  seek-unsound : (n : ℕ) (ps ss : List ℕ) → suc n ≡ length ps → slot_by w p n (aimed aim) ≡ Err unsound → SeeksBelow w p aim ps ss ps ss (Err unsound)
   seek-unsound n ps ss k e = seeks-none refl refl (subst (λ m. From w p m (λ h t. ⊥)) k (slot-never n e))
 
-  module _ (n i : ℕ) (e : slot_by w p n (aimed aim) ≡ slot.At i) where
+  module _ (n i : ℕ) (e : slot_by w p n (aimed aim) ≡ Ok i) where
     -- the child, as the page's words have it, is the tree's
-    child-is : 0 < n → From w p (suc n) (λ h t. below_of w p i ≡ below.Page (page_number h (seek_child (aimed aim) h t)))
+    child-is : 0 < n → From w p (suc n) (λ h t. below_of w p i ≡ Ok (page_number h (seek_child (aimed aim) h t)))
     child-is l low h t k s r q =
         rw (← q, ← (slot_is n i e low h t k s r q)) (sits-below w low h t s (omega arith) (gap_of (aimed aim) t.own) (gap-le (aimed aim) t.own))
 
     leaf-finds : n ≡ 0 → (low h : ℕ) (t : Tree (suc h)) → suc n ≡ suc h → Sits w low (suc h) t → Rising (entries (suc h) t) → t.page ≡ p
-        → Finds true (p ∷ []) (i ∷ []) h t
+        → Finds (Ok tt) (p ∷ []) (i ∷ []) h t
     unfolding seek_pages seek_slots
     leaf-finds z low zero t k s r q = (refl, ap (λ x. x ∷ []) (sym q), ap (λ x. x ∷ []) (sym (slot_is n i e low zero t k s r q)))
     leaf-finds z low (suc h) t k s r q = absurd (omega arith)
 
-    seek-end : Inside p w → (x y : ℕ) (ps ss : List ℕ) → n ≡ 0 → length ps ≡ 0 → length ss ≡ 0 → SeeksBelow w p aim (x ∷ ps) (y ∷ ss) (p ∷ ps) (i ∷ ss) true
+    seek-end : Inside p w → (x y : ℕ) (ps ss : List ℕ) → n ≡ 0 → length ps ≡ 0 → length ss ≡ 0 → SeeksBelow w p aim (x ∷ ps) (y ∷ ss) (p ∷ ps) (i ∷ ss) (Ok tt)
     seek-end inside x y [] [] z a b =
         seeks refl refl (λ y. record { even = refl; inside = (inside, tt); slots = (slot-few w p n (aimed aim) (sym e), tt) })
         (λ low h t k s r q. leaf-finds z low h t (omega arith) s r q)
     seek-end inside x y [] (y' ∷ ss) z a b = absurd (omega arith)
     seek-end inside x y (x' ∷ ps) ss z a b = absurd (omega arith)
 
-    seek-lost : (x y : ℕ) (ps ss : List ℕ) → n ≡ length ps → 0 < n → below_of w p i ≡ below.Unsound → SeeksBelow w p aim (x ∷ ps) (y ∷ ss) (p ∷ ps) (i ∷ ss) false
+    seek-lost : (x y : ℕ) (ps ss : List ℕ) → n ≡ length ps → 0 < n → below_of w p i ≡ Err unsound → SeeksBelow w p aim (x ∷ ps) (y ∷ ss) (p ∷ ps) (i ∷ ss) (Err unsound)
     seek-lost x y ps ss k l b =
         seeks-none refl refl (λ low h t k' s r q. never (cc (child-is l low h t (ap suc k ∙ k') s r q)))
 
-    down-finds : {a : Bool} {ps ss qs rs : List ℕ} (c : ℕ) → below_of w p i ≡ below.Page c → 0 < n → n ≡ length ps → SeeksBelow w c aim ps ss qs rs a
+    down-finds : {a : Result ⊤ Unsound} {ps ss qs rs : List ℕ} (c : ℕ) → below_of w p i ≡ Ok c → 0 < n → n ≡ length ps → SeeksBelow w c aim ps ss qs rs a
         → (low h : ℕ) (t : Tree (suc h)) → suc n ≡ suc h → Sits w low (suc h) t → Rising (entries (suc h) t) → t.page ≡ p
         → Finds a (p ∷ qs) (i ∷ rs) h t
     unfolding seek_pages seek_slots
@@ -113,7 +114,7 @@ module _ (w : List ℕ) (p : ℕ) (aim : Aim) where
           ap₂ (λ (x : ℕ) (l : List ℕ). x ∷ l) (sym (slot_is n i e low (suc h) t k s r q)) (g.slots-are least h u long sits rise page),
         )
 
-    seek-down : {a : Bool} {ps ss qs rs : List ℕ} (x y c : ℕ) → Inside p w → n ≡ length ps → 0 < n → below_of w p i ≡ below.Page c → SeeksBelow w c aim ps ss qs rs a
+    seek-down : {a : Result ⊤ Unsound} {ps ss qs rs : List ℕ} (x y c : ℕ) → Inside p w → n ≡ length ps → 0 < n → below_of w p i ≡ Ok c → SeeksBelow w c aim ps ss qs rs a
         → SeeksBelow w p aim (x ∷ ps) (y ∷ ss) (p ∷ qs) (i ∷ rs) a
     seek-down x y c inside k l b g =
         seeks (ap suc g.pages) (ap suc g.slots)
@@ -128,50 +129,72 @@ module _ (w : List ℕ) (p : ℕ) (aim : Aim) where
 
 -- what the search from page `at` fills in from place i on, the search from page p fills in behind what stands before
 -- place i
-abbrev pub Rest : List ℕ → ℕ → Aim → List ℕ → List ℕ → ℕ → ℕ → List ℕ → List ℕ → Type 0
-Rest w p aim ps₀ ss₀ at i ps ss =
-    (r : Bool) (qs rs : List ℕ) → SeeksBelow w at aim (drop i ps) (drop i ss) qs rs r → SeeksBelow w p aim ps₀ ss₀ (take i ps ++ qs) (take i ss ++ rs) r
+pub record Rest (w : List ℕ) (p : ℕ) (aim : Aim) (ps₀ ss₀ : List ℕ) (at i : ℕ) (ps ss : List ℕ) : Type 0 where
+  pub inside : Inside at w
+  pub within : i < length ps
+  pub pages : length ps ≡ length ps₀
+  pub slots : length ss ≡ length ss₀
+  pub rest : (r : Result ⊤ Unsound) (qs rs : List ℕ) → SeeksBelow w at aim (drop i ps) (drop i ss) qs rs r
+      → SeeksBelow w p aim ps₀ ss₀ (take i ps ++ qs) (take i ss ++ rs) r
 
--- where n levels are left below page `at`
-module _ (w : List ℕ) (p : ℕ) (aim : Aim) (ps₀ ss₀ : List ℕ) (at i : ℕ) (ps ss : List ℕ) (rest : Rest w p aim ps₀ ss₀ at i ps ss)
-    (n : ℕ) (long : i + suc n ≡ length ps) (even : length ps ≡ length ss) where
-  pub rest-unsound : slot_by w at n (aimed aim) ≡ slot.Unsound → SeeksBelow w p aim ps₀ ss₀ ps ss false
+pub rest-start : (w : List ℕ) (p : ℕ) (aim : Aim) (ps ss : List ℕ) → Inside p w → 1 ≤ length ps → Rest w p aim ps ss p 0 ps ss
+rest-start w p aim ps ss inside some = record { inside = inside; within = some; pages = refl; slots = refl; rest = λ r qs rs g. g }
+
+module _ {w : List ℕ} {p : ℕ} {aim : Aim} {ps₀ ss₀ : List ℕ} {at i : ℕ} {ps ss : List ℕ} (even : length ps₀ ≡ length ss₀)
+    (rest : Rest w p aim ps₀ ss₀ at i ps ss) where
+  -- the levels left below page `at`
+  long : i + suc (length ps₀ - 1 - i) ≡ length ps
+  long = omega (arith, rest.within, rest.pages)
+
+  short : i < length ss
+  short = omega (arith, rest.within, rest.pages, rest.slots)
+
+  pub rest-unsound : slot_by w at (length ps₀ - 1 - i) (aimed aim) ≡ Err unsound → SeeksBelow w p aim ps₀ ss₀ ps ss (Err unsound)
   rest-unsound e =
-      let left : suc n ≡ length (drop i ps) = rw (length-drop i ps) (omega arith) in
-      let found = rest false (drop i ps) (drop i ss) (seek-unsound w at aim n (drop i ps) (drop i ss) left e) in
+      let left : suc (length ps₀ - 1 - i) ≡ length (drop i ps) = rw (length-drop i ps) (omega (arith, long)) in
+      let found = rest.rest (Err unsound) (drop i ps) (drop i ss) (seek-unsound w at aim (length ps₀ - 1 - i) (drop i ps) (drop i ss) left e) in
       rw (take-append-drop i ps, take-append-drop i ss) at found
 
-  module _ (s : ℕ) (e : slot_by w at n (aimed aim) ≡ slot.At s) where
-    stored : (r : Bool) → SeeksBelow w at aim (get_or ps i 0 ∷ drop (suc i) ps) (get_or ss i 0 ∷ drop (suc i) ss) (at ∷ drop (suc i) ps) (s ∷ drop (suc i) ss) r
+  module _ {s : ℕ} (e : slot_by w at (length ps₀ - 1 - i) (aimed aim) ≡ Ok s) where
+    stored : (r : Result ⊤ Unsound) → SeeksBelow w at aim (get_or ps i 0 ∷ drop (suc i) ps) (get_or ss i 0 ∷ drop (suc i) ss) (at ∷ drop (suc i) ps) (s ∷ drop (suc i) ss) r
         → SeeksBelow w p aim ps₀ ss₀ (set ps i at) (set ss i s) r
     stored r g =
-        rw (set_split ps i at (omega arith), set_split ss i s (omega arith))
-        (rest r (at ∷ drop (suc i) ps) (s ∷ drop (suc i) ss) (rw (drop-cons ps i 0 (omega arith), drop-cons ss i 0 (omega arith)) g))
+        rw (set_split ps i at rest.within, set_split ss i s short)
+        (rest.rest r (at ∷ drop (suc i) ps) (s ∷ drop (suc i) ss) (rw (drop-cons ps i 0 rest.within, drop-cons ss i 0 short) g))
 
-    pub rest_end : Inside at w → n ≡ 0 → SeeksBelow w p aim ps₀ ss₀ (set ps i at) (set ss i s) true
-    rest_end inside z =
-        let no-pages : length (drop (suc i) ps) ≡ 0 = rw (length-drop (suc i) ps) (omega arith) in
-        let no-slots : length (drop (suc i) ss) ≡ 0 = rw (length-drop (suc i) ss) (omega arith) in
-        stored true (seek-end w at aim n s e inside _ _ (drop (suc i) ps) (drop (suc i) ss) z no-pages no-slots)
+    pub rest_end : i ≡ length ps₀ - 1 → SeeksBelow w p aim ps₀ ss₀ (set ps i at) (set ss i s) (Ok tt)
+    rest_end last =
+        let no-pages : length (drop (suc i) ps) ≡ 0 = rw (length-drop (suc i) ps) (omega (arith, long)) in
+        let no-slots : length (drop (suc i) ss) ≡ 0 = rw (length-drop (suc i) ss) (omega (arith, long, rest.pages, rest.slots)) in
+        stored (Ok tt) (seek-end w at aim (length ps₀ - 1 - i) s e rest.inside _ _ (drop (suc i) ps) (drop (suc i) ss) (omega arith) no-pages no-slots)
 
-    pub rest-lost : 0 < n → below_of w at s ≡ below.Unsound → SeeksBelow w p aim ps₀ ss₀ (set ps i at) (set ss i s) false
-    rest-lost l b =
-        let left : n ≡ length (drop (suc i) ps) = rw (length-drop (suc i) ps) (omega arith) in
-        stored false (seek-lost w at aim n s e _ _ (drop (suc i) ps) (drop (suc i) ss) left l b)
+    module _ (more : i ≢ length ps₀ - 1) where
+      left : length ps₀ - 1 - i ≡ length (drop (suc i) ps)
+      left = rw (length-drop (suc i) ps) (omega (arith, long))
 
-    rest-next : Inside at w → 0 < n → (c : ℕ) → below_of w at s ≡ below.Page c → Rest w p aim ps₀ ss₀ c (suc i) (set ps i at) (set ss i s)
-    rest-next inside l c b r qs rs g =
-        let left : n ≡ length (drop (suc i) ps) = rw (length-drop (suc i) ps) (omega arith) in
-        let few-pages : i < length ps = omega arith in
-        let few-slots : i < length ss = omega arith in
-        let below-it : SeeksBelow w c aim (drop (suc i) ps) (drop (suc i) ss) qs rs r = rw (drop-set-lt (suc i) ps i at (omega arith), drop-set-lt (suc i) ss i s (omega arith)) at g in
-        rw (take-suc-set ps i at few-pages, take-suc-set ss i s few-slots, append_assoc (take i ps) (at ∷ []) qs, append_assoc (take i ss) (s ∷ []) rs)
-        (rest r (at ∷ qs) (s ∷ rs) (rw (drop-cons ps i 0 few-pages, drop-cons ss i 0 few-slots) (seek-down w at aim n s e _ _ c inside left l b below-it)))
+      tall : 0 < length ps₀ - 1 - i
+      tall = omega (arith, rest.within, rest.pages)
 
-    pub rest-down : Inside at w → 0 < n → (c : ℕ) → below_of w at s ≡ below.Page c → Rest w p aim ps₀ ss₀ c (i + 1) (set ps i at) (set ss i s)
-    rest-down inside l c b =
-        let next : suc i ≡ i + 1 = omega arith in
-        subst (λ (j : ℕ). Rest w p aim ps₀ ss₀ c j (set ps i at) (set ss i s)) next (rest-next inside l c b)
+      pub rest-lost : below_of w at s ≡ Err unsound → SeeksBelow w p aim ps₀ ss₀ (set ps i at) (set ss i s) (Err unsound)
+      rest-lost b = stored (Err unsound) (seek-lost w at aim (length ps₀ - 1 - i) s e _ _ (drop (suc i) ps) (drop (suc i) ss) left tall b)
+
+      rest-next : (c : ℕ) → below_of w at s ≡ Ok c → Rest w p aim ps₀ ss₀ c (suc i) (set ps i at) (set ss i s)
+      rest-next c b = record {
+        inside = page-inside w c (below-inside w at s c b).1;
+        within = rw (length-set ps i at) (omega (arith, tall, long));
+        pages = length-set ps i at ∙ rest.pages;
+        slots = length-set ss i s ∙ rest.slots;
+        rest = λ r qs rs g.
+            let below-it : SeeksBelow w c aim (drop (suc i) ps) (drop (suc i) ss) qs rs r = rw (drop-set-lt (suc i) ps i at (omega arith), drop-set-lt (suc i) ss i s (omega arith)) at g in
+            rw (take-suc-set ps i at rest.within, take-suc-set ss i s short, append_assoc (take i ps) (at ∷ []) qs, append_assoc (take i ss) (s ∷ []) rs)
+            (rest.rest r (at ∷ qs) (s ∷ rs)
+            (rw (drop-cons ps i 0 rest.within, drop-cons ss i 0 short) (seek-down w at aim (length ps₀ - 1 - i) s e _ _ c rest.inside left tall b below-it)));
+      }
+
+      pub rest-down : {c : ℕ} → below_of w at s ≡ Ok c → Rest w p aim ps₀ ss₀ c (i + 1) (set ps i at) (set ss i s)
+      rest-down {c} b =
+          let next : suc i ≡ i + 1 = omega arith in
+          subst (λ (j : ℕ). Rest w p aim ps₀ ss₀ c j (set ps i at) (set ss i s)) next (rest-next c b)
 
 -- ---- a whole pool
 
@@ -197,20 +220,20 @@ unfolding entries
 no-levels zero t z = refl
 no-levels (suc h) t z = absurd (omega arith)
 
-get-tree : (w : List ℕ) (k low h : ℕ) (t : Tree h) (n p : ℕ) {r : Got} → suc n ≡ h → Sits w low h t → page_number h t ≡ p
+get-tree : (w : List ℕ) (k low h : ℕ) (t : Tree h) (n p : ℕ) {r : Result (Option Found) Unsound} → suc n ≡ h → Sits w low h t → page_number h t ≡ p
     → GetsBelow w p n k 0 r → r ≡ got_found 0 (find k h t)
 get-tree w k low zero t n p d s q g = absurd (omega arith)
 get-tree w k low (suc h) t n p {r} d s q g = let n-is-h : n ≡ h = omega arith in subst (λ n. GetsBelow w p n k 0 r) n-is-h g low t s q
 
-pub get_none : (w : List ℕ) (k : ℕ) → levels_word w ≡ 0 → Gets w k got.Absent
+pub get_none : (w : List ℕ) (k : ℕ) → levels_word w ≡ 0 → Gets w k (Ok None)
 unfolding held lookup
 get_none w k z s = rw (no-levels (pool_of w).whole.levels (pool_of w).whole.tree (sound-levels w ∙ z))
 
-pub get-whole : (w : List ℕ) (k n p : ℕ) {r : Got} → suc n ≡ levels_word w → root_word w - 1 ≡ p → GetsBelow w p n k 0 r → Gets w k r
+pub get-whole : (w : List ℕ) (k n p : ℕ) {r : Result (Option Found) Unsound} → suc n ≡ levels_word w → root_word w - 1 ≡ p → GetsBelow w p n k 0 r → Gets w k r
 unfolding held pages_read Formed
 get-whole w k n p d q g s =
     get-tree w k 1 (pool_of w).whole.levels (pool_of w).whole.tree n p (d ∙ sym (sound-levels w)) (sound-sits w s) (sound-number w s ∙ q) g
-    ∙ ap (λ (x : Option ℕ). got_by 0 x (pages_read k (pool_of w)))
+    ∙ ap (λ (x : pure.Option ℕ). got_by 0 x (pages_read k (pool_of w)))
     (found-held k least 1 (pool_of w).whole.levels (pool_of w).whole.tree (sound-sits w s).shaped (sound-right w s).rising)
 
 path-none : (h : ℕ) (t : Tree h) (g : ℕ) → h ≡ 0 → PathOf h t g [] []
@@ -218,7 +241,7 @@ unfolding gap_pages gap_slots
 path-none zero t g z = record { pages = refl; slots = refl }
 path-none (suc h) t g z = absurd (omega arith)
 
-pub seek-none : (w : List ℕ) (aim : Aim) (ps ss : List ℕ) → levels_word w ≡ 0 → length ps ≡ 0 → length ss ≡ 0 → Seeks w aim ps ss ps ss true
+pub seek-none : (w : List ℕ) (aim : Aim) (ps ss : List ℕ) → levels_word w ≡ 0 → length ps ≡ 0 → length ss ≡ 0 → Seeks w aim ps ss ps ss (Ok tt)
 seek-none w aim [] [] z a b = record {
   pages = refl;
   slots = refl;
@@ -229,8 +252,8 @@ seek-none w aim [] [] z a b = record {
 seek-none w aim [] (y ∷ ss) z a b = absurd (omega arith)
 seek-none w aim (x ∷ ps) ss z a b = absurd (omega arith)
 
-seek-tree : (w : List ℕ) (p : ℕ) (aim : Aim) (low h : ℕ) (t : Tree h) {ps ss ps' ss' : List ℕ} {r : Bool} → 0 < h → length ps ≡ h
-    → Sits w low h t → Rising (entries h t) → page_number h t ≡ p → SeeksBelow w p aim ps ss ps' ss' r → (r ≡ true) × PathOf h t (gap_of (aimed aim) (entries h t)) ps' ss'
+seek-tree : (w : List ℕ) (p : ℕ) (aim : Aim) (low h : ℕ) (t : Tree h) {ps ss ps' ss' : List ℕ} {r : Result ⊤ Unsound} → 0 < h → length ps ≡ h
+    → Sits w low h t → Rising (entries h t) → page_number h t ≡ p → SeeksBelow w p aim ps ss ps' ss' r → (r ≡ Ok tt) × PathOf h t (gap_of (aimed aim) (entries h t)) ps' ss'
 seek-tree w p aim low zero t l k s r q g = absurd (omega arith)
 seek-tree w p aim low (suc h) t l k s r q g = (
   g.sound low h t k s r q,
@@ -240,11 +263,11 @@ seek-tree w p aim low (suc h) t l k s r q g = (
   },
 )
 
-pub seek-whole : (w : List ℕ) (p : ℕ) (aim : Aim) {ps ss ps' ss' : List ℕ} {r : Bool} → 0 < levels_word w → length ps ≡ levels_word w → root_word w - 1 ≡ p
+pub seek-whole : (w : List ℕ) (p : ℕ) (aim : Aim) {ps ss ps' ss' : List ℕ} {r : Result ⊤ Unsound} → 0 < levels_word w → length ps ≡ levels_word w → root_word w - 1 ≡ p
     → SeeksBelow w p aim ps ss ps' ss' r → Seeks w aim ps ss ps' ss' r
 unfolding held
 seek-whole w p aim {ps} {ss} {ps'} {ss'} {r} l k q g =
     let levels = sound-levels w in
-    let found : Sound w → (r ≡ true) × PathOf (pool_of w).whole.levels (pool_of w).whole.tree (gap_of (aimed aim) (held_by (pool_of w))) ps' ss' = λ s.
+    let found : Sound w → (r ≡ Ok tt) × PathOf (pool_of w).whole.levels (pool_of w).whole.tree (gap_of (aimed aim) (held_by (pool_of w))) ps' ss' = λ s.
     seek-tree w p aim 1 (pool_of w).whole.levels (pool_of w).whole.tree (omega arith) (omega arith) (sound-sits w s) (sound-right w s).rising (sound-number w s ∙ q) g in
     record { pages = g.pages; slots = g.slots; inside = g.inside; sound = λ s. (found s).0; path = λ s. (found s).1 }

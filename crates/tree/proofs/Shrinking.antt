@@ -12,6 +12,7 @@ use lib.Dec.{ltb}
 use lib.ListN.{length, take, drop, get_or, set, length-set, length-drop}
 use lib.Seq.{set_out, map-set_same}
 use borrow.Author.Tests.{le-leb, lt-leb, lt-ltb, le-ltb}
+use Rattle.std.specs.Prelude.{Option, Some, None}
 use Rattle.model.specs.Basics.{sum, All, final, same}
 use Rattle.model.specs.PageMap.{bit_at}
 use Rattle.model.specs.Tree.{Entry, Tree, no_entry, no_node, no_tree, entries, size, times, Shaped}
@@ -22,11 +23,10 @@ use Rattle.model.specs.Path.{gap_pages, gap_slots}
 use Rattle.model.specs.Remove as removal
 use Rattle.model.specs.Remove.{step, remove_at}
 use Rattle.model.specs.Freed.{step_freed, freed_at}
+use Rattle.page.specs.declared.Entry as lent
 use Rattle.lend.specs.Pages.{least, most, page_in, map_in}
-use Rattle.tree.specs.declared.remove.Gone.{Gone}
-use Rattle.tree.specs.declared.remove.Gone.TheVariants as gone
 use Rattle.tree.specs.Sits.{PathOf, Sits}
-use Rattle.tree.specs.Insert.{Marked}
+use Rattle.tree.specs.Insert.{given, Marked}
 use Rattle.tree.specs.Remove.{near, Mends, Mended, TakesOut, inherited_by, Inherits, gone_by, gone_of, near_pages, Shrinks, RemovesBelow}
 use Rattle.model.proofs.Cases.{either-le, either_lt, same_self, same-zero}
 use Rattle.model.proofs.Basics.{all_append, all_left, all_right, all_take, all_drop, all_of, all_any, all_map, all-image, map-take, map-drop}
@@ -76,17 +76,17 @@ map-near f i l = ap (drop (pred i)) (map-take f (suc (suc i)) l) ∙ map-drop f 
 
 -- ---- what is handed up
 
-gone-of-end : (h : ℕ) (t : Tree h) (g : ℕ) → size h t ≤ g → gone_of h t g ≡ gone.Last (final no_entry (entries h t)).key (final no_entry (entries h t)).value
+gone-of-end : (h : ℕ) (t : Tree h) (g : ℕ) → size h t ≤ g → gone_of h t g ≡ Some (given (final no_entry (entries h t)))
 unfolding gone_of
 gone-of-end h t g b = rw (le-leb (size h t) g b)
 
-gone-of-inside : (h : ℕ) (t : Tree h) (g : ℕ) → g < size h t → gone_of h t g ≡ gone.Taken
+gone-of-inside : (h : ℕ) (t : Tree h) (g : ℕ) → g < size h t → gone_of h t g ≡ None
 unfolding gone_of
 gone-of-inside h t g b = rw (lt-leb (size h t) g b)
 
 -- ---- an upper page t, whose child at gap g has lost the entry: from w to w₁ the child, from w₁ to w₂ the page's entry
 
-module _ (w w₁ : List ℕ) (low h : ℕ) (t : Tree (suc (suc h))) (g : ℕ) (r₁ : Gone) (s : Sits w low (suc (suc h)) t) (b : g ≤ size (suc (suc h)) t)
+module _ (w w₁ : List ℕ) (low h : ℕ) (t : Tree (suc (suc h))) (g : ℕ) (r₁ : Option lent.Entry) (s : Sits w low (suc (suc h)) t) (b : g ≤ size (suc (suc h)) t)
     (marked : Marked w (suc (suc h)) t) (below : Shrinks w h (child_at (suc h) t g) (rest_at (suc h) t g) w₁ r₁) where
   abbrev i : ℕ
   i = slot_at (suc h) t g
@@ -129,7 +129,7 @@ module _ (w w₁ : List ℕ) (low h : ℕ) (t : Tree (suc (suc h))) (g : ℕ) (r
   pub kept-page : page_in w₁ t.page ≡ page_in w t.page
   kept-page = kept-below t.page (omega (arith, apart t.page, same_self t.page))
 
-  module _ (w₂ : List ℕ) (r₂ : Gone) (heir : Inherits t.page i r₁ w₁ w₂ r₂) where
+  module _ (w₂ : List ℕ) (r₂ : Option lent.Entry) (heir : Inherits t.page i r₁ w₁ w₂ r₂) where
     kept-other : (q : ℕ) → same q t.page ≡ 0 → page_in w₂ q ≡ page_in w₁ q
     kept-other q z = heir.only.others q (same-zero q t.page z, tt)
 
@@ -158,7 +158,7 @@ module _ (w w₁ : List ℕ) (low h : ℕ) (t : Tree (suc (suc h))) (g : ℕ) (r
         either-le (size (suc h) x) o
         (λ end. either_lt i (count_of (page_in w₁ t.page))
         (λ l.
-        let k = rw kept-page at (heir.holds last.key last.value (below.handed ∙ gone-of-end (suc h) x o end) l (omega arith)) in
+        let k = rw kept-page at (heir.holds (given last) (below.handed ∙ gone-of-end (suc h) x o end) l (omega arith)) in
         record {
           height = k.height ∙ height;
           own = k.own ∙ ap (λ (es : List Entry). set es i last) own ∙ sym (lost-heir (suc h) t i o c end);
@@ -201,7 +201,7 @@ module _ (w w₁ : List ℕ) (low h : ℕ) (t : Tree (suc (suc h))) (g : ℕ) (r
         up false (le-ltb i (count_of (page_in w₁ t.page)) (omega arith)) ∙ below.handed ∙ either-le (size (suc h) x) o
         (λ end.
         gone-of-end (suc h) x o end
-        ∙ ap (λ (e : Entry). gone.Last e.key e.value) (sym (final-end (entries (suc h)) no_entry t.children t.own no_node forks
+        ∙ ap (λ (e : Entry). Some (given e)) (sym (final-end (entries (suc h)) no_entry t.children t.own no_node forks
         (rw last at (size-some least least h x (omega arith) x-shaped)) ∙ ap (λ (j : ℕ). final no_entry (entries (suc h) (child (suc h) t j))) (sym last)))
         ∙ sym (gone-of-end (suc (suc h)) t g (end-at-last least low (suc h) t g s.shaped b l end)))
         (λ before.
@@ -250,7 +250,7 @@ module _ (w w₁ : List ℕ) (low h : ℕ) (t : Tree (suc (suc h))) (g : ℕ) (r
 
 -- ---- a leaf
 
-leaf-shrinks : (w w' : List ℕ) (low : ℕ) (t : Tree 1) (g : ℕ) (r : Gone) → Sits w low 1 t → g ≤ size 1 t → TakesOut t.page (slot_at 0 t g) w w' r → Shrinks w 0 t g w' r
+leaf-shrinks : (w w' : List ℕ) (low : ℕ) (t : Tree 1) (g : ℕ) (r : Option lent.Entry) → Sits w low 1 t → g ≤ size 1 t → TakesOut t.page (slot_at 0 t g) w w' r → Shrinks w 0 t g w' r
 unfolding Standing step step_freed remove_at freed_at gone_of near_pages
 leaf-shrinks w w' low t g r s b takes =
     let held : entries 1 t ≡ t.own = leaf-entries t in
@@ -276,7 +276,7 @@ leaf-shrinks w w' low t g r s b takes =
 
 -- ---- along the path
 
-module _ (w w' ps ss : List ℕ) (r : Gone) (one : length ps ≡ 1) (takes : TakesOut (get_or ps 0 0) (get_or ss 0 0) w w' r) where
+module _ (w w' ps ss : List ℕ) (r : Option lent.Entry) (one : length ps ≡ 1) (takes : TakesOut (get_or ps 0 0) (get_or ss 0 0) w w' r) where
   leaf-path : (low h : ℕ) (t : Tree (suc h)) (g : ℕ) → Sits w low (suc h) t → g ≤ size (suc h) t → PathOf (suc h) t g ps ss → Shrinks w h t g w' r
   unfolding gap_pages gap_slots
   leaf-path low zero t g s b path =
@@ -302,7 +302,7 @@ along-child w ps ss P below low h t g s b path marked =
     (path-behind (suc h) t g ps ss path)
     (λ q. omega (arith, marked q, times-child q (suc h) t (slot_at (suc h) t g) inside))
 
-module _ (w w₁ w₂ w₃ ps ss : List ℕ) (r₁ r₂ : Gone) (more : 2 ≤ length ps) (below : RemovesBelow w (behind ps) (behind ss) w₁ r₁)
+module _ (w w₁ w₂ w₃ ps ss : List ℕ) (r₁ r₂ : Option lent.Entry) (more : 2 ≤ length ps) (below : RemovesBelow w (behind ps) (behind ss) w₁ r₁)
     (heir : Inherits (get_or ps 0 0) (get_or ss 0 0) r₁ w₁ w₂ r₂) (mends : Mends (get_or ps 0 0) (get_or ss 0 0) w₂ w₃) where
   pub upper-path : Along w ps ss (λ h t g. Shrinks w h t g w₃ r₂)
   unfolding gap_pages gap_slots
@@ -322,11 +322,11 @@ module _ (w w₁ w₂ w₃ ps ss : List ℕ) (r₁ r₂ : Gone) (more : 2 ≤ le
 
 -- ---- from the leaf upward: the path's last place, and from place i to place i - 1
 
-pub along-leaf : (w w' ps ss : List ℕ) (i : ℕ) (r : Gone) → suc i ≡ length ps → TakesOut (get_or ps i 0) (get_or ss i 0) w w' r → RemovesBelow w (drop i ps) (drop i ss) w' r
+pub along-leaf : (w w' ps ss : List ℕ) (i : ℕ) (r : Option lent.Entry) → suc i ≡ length ps → TakesOut (get_or ps i 0) (get_or ss i 0) w w' r → RemovesBelow w (drop i ps) (drop i ss) w' r
 along-leaf w w' ps ss i r last takes =
     removes-leaf w w' (drop i ps) (drop i ss) r (simp length-drop (omega arith)) (rw (first-from ps i 0, first-from ss i 0) takes)
 
-pub along-upper : (w w₁ w₂ w₃ ps ss : List ℕ) (i : ℕ) (r₁ r₂ : Gone) → 0 < i → i < length ps → RemovesBelow w (drop i ps) (drop i ss) w₁ r₁
+pub along-upper : (w w₁ w₂ w₃ ps ss : List ℕ) (i : ℕ) (r₁ r₂ : Option lent.Entry) → 0 < i → i < length ps → RemovesBelow w (drop i ps) (drop i ss) w₁ r₁
     → Inherits (get_or ps (i - 1) 0) (get_or ss (i - 1) 0) r₁ w₁ w₂ r₂ → Mends (get_or ps (i - 1) 0) (get_or ss (i - 1) 0) w₂ w₃ → RemovesBelow w (drop (i - 1) ps) (drop (i - 1) ss) w₃ r₂
 along-upper w w₁ w₂ w₃ ps ss i r₁ r₂ some b below heir mends =
     removes-upper w w₁ w₂ w₃ (drop (i - 1) ps) (drop (i - 1) ss) r₁ r₂ (simp length-drop (omega arith)) (rw (behind-from ps i some, behind-from ss i some) below)

@@ -6,6 +6,7 @@ use mathlib.Core.List.{List}
 use Prim.Native.Nat.{ℕ, zero, suc, ◌≤◌, ◌<◌}
 use native.Mathlib.Omega.{arith}
 use lib.ListN.{length}
+use Rattle.std.specs.Prelude.{Ok}
 use Rattle.model.specs.Layout.{pages_in, today}
 use Rattle.model.specs.Tree.{Tree, size, Formed, Shaped, meets, no_tree}
 use Rattle.model.specs.Page.{height_of, entries_of}
@@ -16,7 +17,6 @@ use Rattle.model.specs.Pool.{pool_of}
 use Rattle.model.specs.Sound.{Sound}
 use Rattle.model.specs.Head.{geometry_of}
 use Rattle.lend.specs.Pages.{least, most, Inside, page_in}
-use Rattle.tree.specs.declared.search.Below.TheVariants as below
 use Rattle.tree.specs.Sits.{PathIn, PathOf, Sits}
 use Rattle.tree.specs.Search.{below_of}
 use Rattle.model.proofs.Cases.{either_lt}
@@ -65,7 +65,7 @@ module _ (w : List ℕ) (low h : ℕ) (t : Tree (suc h)) (s : Sits w low (suc h)
         inside = λ q met. s.inside q (omega (arith, times-child q h t i here));
       }
 
-  pub sits-below : 0 < h → (i : ℕ) → i ≤ length t.own → below_of w t.page i ≡ below.Page (page_number h (child h t i))
+  pub sits-below : 0 < h → (i : ℕ) → i ≤ length t.own → below_of w t.page i ≡ Ok (page_number h (child h t i))
   sits-below l i b = child-found w h t s.stands sits-forks i b l (omega (arith, sits-most)) s.inside
 
   -- the way of a gap

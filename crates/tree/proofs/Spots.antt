@@ -1,15 +1,16 @@
 -- Where the entry beside a path's gap stands: the deepest page of the path that has one at its slot. Code looks for it
 -- from the path's end, the tree has it from the root; on a tree that sits in the pool the two agree.
 -- Assumes nothing.
-use mathlib.Core.Path.{◌≡◌, refl, sym, ap, ap₂, ◌∙◌}
+use mathlib.Core.Path.{◌≡◌, refl, sym, ap, ap₂, subst, ◌∙◌}
 use mathlib.Core.Bool.{true, false, cond}
 use mathlib.Core.List.{List, [], ◌∷◌, ◌++◌}
 use Prim.Native.Nat.{ℕ, zero, suc, ◌-◌, ◌≤◌, ◌<◌}
 use native.Mathlib.Omega.{arith}
 use lib.Dec.{ltb}
 use lib.ListN.{length, take, get_or}
-use lib.Seq.{take-suc, take_all, length-take-le}
+use lib.Seq.{take-suc, length-take-le}
 use borrow.Author.Tests.{lt-ltb, le-ltb}
+use Rattle.std.specs.Prelude.{Option, Some, None}
 use Rattle.model.specs.Basics.{All}
 use Rattle.model.specs.Tree.{Tree, no_entry, entries, size, Shaped}
 use Rattle.model.specs.Gap.{slot_at, rest_at, child, child_at}
@@ -17,9 +18,8 @@ use Rattle.model.specs.Path.{gap_pages, gap_slots}
 use Rattle.page.specs.Page.{holds_at}
 use Rattle.lend.specs.Pages.{least, most, Inside, page_in}
 use Rattle.tree.specs.declared.steps.Spot.{Spot}
-use Rattle.tree.specs.declared.steps.Spot.TheVariants as spot
 use Rattle.tree.specs.Sits.{PathIn, Sits}
-use Rattle.tree.specs.Steps.{spot_of, spot_before, or_else, here_after, here_before, deepest, Within, Spots, SpotAfter, SpotBefore}
+use Rattle.tree.specs.Steps.{spot, spot_of, spot_before, or_else, here_after, here_before, deepest, Within, Spots, SpotAfter, SpotBefore}
 use Rattle.model.proofs.Cases.{either, either_lt, never}
 use Rattle.model.proofs.Basics.{next-some, next-none}
 use Rattle.model.proofs.Gap.{way_down, child-shaped}
@@ -31,15 +31,15 @@ use Rattle.tree.proofs.Turning.{holds-own}
 
 -- ---- along a path of any pages
 
-else-end : (a : Spot) → or_else a spot.End ≡ a
-else-end (spot.At p s) = refl
-else-end spot.End = refl
+else-end : (a : Option Spot) → or_else a None ≡ a
+else-end (Some x) = refl
+else-end None = refl
 
-else-again : (a b c : Spot) → or_else (or_else a b) c ≡ or_else a (or_else b c)
-else-again (spot.At p s) b c = refl
-else-again spot.End b c = refl
+else-again : (a b c : Option Spot) → or_else (or_else a b) c ≡ or_else a (or_else b c)
+else-again (Some x) b c = refl
+else-again None b c = refl
 
-module _ (here : ℕ → ℕ → Spot) where
+module _ (here : ℕ → ℕ → Option Spot) where
   -- the path with one page more at its end
   deepest-more : (ps ss : List ℕ) (p s : ℕ) → length ps ≡ length ss → deepest here (ps ++ p ∷ []) (ss ++ s ∷ []) ≡ or_else (here p s) (deepest here ps ss)
   unfolding deepest
@@ -47,74 +47,67 @@ module _ (here : ℕ → ℕ → Spot) where
   deepest-more [] (y ∷ ss) p s e = absurd (omega arith)
   deepest-more (x ∷ ps) [] p s e = absurd (omega arith)
   deepest-more (x ∷ ps) (y ∷ ss) p s e =
-      ap (λ (r : Spot). or_else r (here x y)) (deepest-more ps ss p s (omega arith)) ∙ else-again (here p s) (deepest here ps ss) (here x y)
+      ap (λ (r : Option Spot). or_else r (here x y)) (deepest-more ps ss p s (omega arith)) ∙ else-again (here p s) (deepest here ps ss) (here x y)
 
   -- the places of a path that are left as code comes from its end, the first i: they give what all of it gives
   pub record Left (ps ss : List ℕ) (i : ℕ) : Type 0 where
     pub within : i ≤ length ps
     pub gives : deepest here (take i ps) (take i ss) ≡ deepest here ps ss
 
-  pub left-all : (ps ss : List ℕ) → length ps ≡ length ss → Left ps ss (length ps)
-  left-all ps ss e = record {
-    within = omega arith;
-    gives = ap₂ (deepest here) (take_all (length ps) ps (omega arith)) (take_all (length ps) ss (omega arith));
-  }
+  module _ {ps ss : List ℕ} {i : ℕ} (e : length ps ≡ length ss) (a : Left ps ss i) where
+    -- the last of them has it, or the others do
+    left-last : 0 < i
+        → deepest here ps ss ≡ or_else (here (get_or ps (i - 1) 0) (get_or ss (i - 1) 0)) (deepest here (take (i - 1) ps) (take (i - 1) ss))
+    left-last l =
+        let j : ℕ = i - 1 in
+        let u : i ≡ suc j = omega arith in
+        let b = a.within in
+        let p : length (take j ps) ≡ j = length-take-le j ps (omega arith) in
+        let s : length (take j ss) ≡ j = length-take-le j ss (omega arith) in
+        let c : deepest here (take (suc j) ps) (take (suc j) ss) ≡ deepest here ps ss = rw u at a.gives in
+        sym c ∙ ap₂ (deepest here) (take-suc ps j 0 (omega arith)) (take-suc ss j 0 (omega arith))
+        ∙ deepest-more (take j ps) (take j ss) (get_or ps j 0) (get_or ss j 0) (omega arith)
 
-  -- the last of them has it, or the others do
-  left-last : (ps ss : List ℕ) (i j : ℕ) → length ps ≡ length ss → Left ps ss i → i ≡ suc j
-      → deepest here ps ss ≡ or_else (here (get_or ps j 0) (get_or ss j 0)) (deepest here (take j ps) (take j ss))
-  left-last ps ss i j e a u =
-      let b = a.within in
-      let p : length (take j ps) ≡ j = length-take-le j ps (omega arith) in
-      let s : length (take j ss) ≡ j = length-take-le j ss (omega arith) in
-      let c : deepest here (take (suc j) ps) (take (suc j) ss) ≡ deepest here ps ss = rw u at a.gives in
-      sym c ∙ ap₂ (deepest here) (take-suc ps j 0 (omega arith)) (take-suc ss j 0 (omega arith))
-      ∙ deepest-more (take j ps) (take j ss) (get_or ps j 0) (get_or ss j 0) (omega arith)
+    -- where it has none, the others are left
+    left_less : 0 < i → here (get_or ps (i - 1) 0) (get_or ss (i - 1) 0) ≡ None → Left ps ss (i - 1)
+    left_less l n = let b = a.within in record { within = omega arith; gives = sym (left-last l ∙ rw n) }
 
-  -- where it has none, the others are left
-  pub left_less : (ps ss : List ℕ) (i j : ℕ) → length ps ≡ length ss → Left ps ss i → i ≡ suc j → here (get_or ps j 0) (get_or ss j 0) ≡ spot.End → Left ps ss j
-  left_less ps ss i j e a u n =
-      let b = a.within in
-      record { within = omega arith; gives = sym (left-last ps ss i j e a u ∙ rw n) }
-
-  left-none : (ps ss : List ℕ) (i : ℕ) → Left ps ss i → i ≤ 0 → spot.End ≡ deepest here ps ss
+  left-none : {ps ss : List ℕ} {i : ℕ} → Left ps ss i → i ≡ 0 → None ≡ deepest here ps ss
   unfolding deepest
-  left-none ps ss zero a z = a.gives
-  left-none ps ss (suc i) a z = absurd (omega arith)
+  left-none a z = rw z at a.gives
 
   -- what a page inside the pool has can be read, so can what the path has
   within-path : (w ps ss : List ℕ) → ((p s : ℕ) → Inside p w → Within w (here p s)) → All (λ p. Inside p w) ps → Within w (deepest here ps ss)
   unfolding deepest
-  within-path w [] ss f a p s e = never (cc)
-  within-path w (x ∷ ps) [] f a p s e = never (cc)
-  within-path w (x ∷ ps) (y ∷ ss) f a p s e = go (within-path w ps ss f a.1) (deepest here ps ss) refl e
+  within-path w [] ss f a z e = never (cc)
+  within-path w (x ∷ ps) [] f a z e = never (cc)
+  within-path w (x ∷ ps) (y ∷ ss) f a z e = go (within-path w ps ss f a.1) (deepest here ps ss) refl e
     where
-      go : Within w (deepest here ps ss) → (r : Spot) → deepest here ps ss ≡ r → or_else r (here x y) ≡ spot.At p s → Inside p w × (s < most)
-      go ih (spot.At q i) d z = ih p s (d ∙ z)
-      go ih spot.End d z = f x y a.0 p s z
+      go : Within w (deepest here ps ss) → (r : Option Spot) → deepest here ps ss ≡ r → or_else r (here x y) ≡ Some z → Inside z.page w × (z.slot < most)
+      go ih (Some _) d k = ih z (d ∙ k)
+      go ih None d k = f x y a.0 z k
 
 within-after : (w : List ℕ) (p s : ℕ) → Inside p w → Within w (here_after w p s)
 unfolding here_after
-within-after w p s b q i e =
+within-after w p s b x e =
     either (holds_at most (page_in w p) s 0)
     (λ y.
-    let z : spot.At p s ≡ spot.At q i = rw y at e in
+    let z : Some (spot p s) ≡ Some x = rw y at e in
     let h = holds-facts most (page_in w p) s 0 y in
-    let ep : p ≡ q = cc (z) in
-    let es : s ≡ i = cc (z) in
-    (omega arith, omega arith))
-    (λ n. let z : spot.End ≡ spot.At q i = rw n at e in never (cc (z)))
+    let same : spot p s ≡ x = cc in
+    subst (λ (x : Spot). Inside x.page w × (x.slot < most)) same (b, omega arith))
+    (λ n. let z : None ≡ Some x = rw n at e in never (cc (z)))
 
 within-before : (w : List ℕ) (p s : ℕ) → Inside p w → Within w (here_before w p s)
 unfolding here_before
-within-before w p zero b q i e = never (cc)
-within-before w p (suc s) b q i e = within-after w p s b q i e
+within-before w p zero b x e = never (cc)
+within-before w p (suc s) b x e = within-after w p s b x e
 
 -- ---- of a tree
 
 module _ (m : ℕ) where
   -- where there is an entry it has a spot
-  pub spot-some : (low h : ℕ) (t : Tree h) (g : ℕ) → Shaped m low h t → g < size h t → (r : Spot) → or_else (spot_of h t g) r ≡ spot_of h t g
+  pub spot-some : (low h : ℕ) (t : Tree h) (g : ℕ) → Shaped m low h t → g < size h t → (r : Option Spot) → or_else (spot_of h t g) r ≡ spot_of h t g
   unfolding spot_of entries
   spot-some low zero t g s b r = absurd (omega arith)
   spot-some low (suc h) t g s b r =
@@ -131,7 +124,7 @@ module _ (m : ℕ) where
       never (cc (x, next-some (entries (suc h) t) g no_entry b, next-none t.own i o)))))
 
   -- and at the end there is none
-  pub spot-end : (low h : ℕ) (t : Tree h) (g : ℕ) → Shaped m low h t → g ≡ size h t → spot_of h t g ≡ spot.End
+  pub spot-end : (low h : ℕ) (t : Tree h) (g : ℕ) → Shaped m low h t → g ≡ size h t → spot_of h t g ≡ None
   unfolding spot_of
   spot-end low zero t g s e = refl
   spot-end low (suc h) t g s e =
@@ -142,7 +135,7 @@ module _ (m : ℕ) where
 -- ---- of a tree that sits in the pool
 
 module _ (w : List ℕ) where
-  here-own : (low h : ℕ) (t : Tree (suc h)) (i : ℕ) → Sits w low (suc h) t → here_after w t.page i ≡ cond (ltb i (length t.own)) (spot.At t.page i) spot.End
+  here-own : (low h : ℕ) (t : Tree (suc h)) (i : ℕ) → Sits w low (suc h) t → here_after w t.page i ≡ cond (ltb i (length t.own)) (Some (spot t.page i)) None
   unfolding here_after
   here-own low h t i u = rw (holds-own w low h t i u)
 
@@ -188,58 +181,61 @@ module _ (w : List ℕ) where
 
 -- ---- what is answered, from the path's end
 
-pub after-lost : (w : List ℕ) (p s : ℕ) → holds_at most (page_in w p) s 0 ≡ false → here_after w p s ≡ spot.End
-unfolding here_after
-after-lost w p s n = rw n
-
 -- before slot s of page p
 here-before : (w : List ℕ) (p s : ℕ) → 0 < s → here_before w p s ≡ here_after w p (s - 1)
 unfolding here_before
 here-before w p zero l = absurd (omega arith)
 here-before w p (suc s) l = let e : suc s - 1 ≡ s = omega arith in rw e
 
-pub before-first : (w : List ℕ) (p s : ℕ) → s ≤ 0 → here_before w p s ≡ spot.End
+before-first : (w : List ℕ) (p s : ℕ) → s ≤ 0 → here_before w p s ≡ None
 unfolding here_before
 before-first w p zero l = refl
 before-first w p (suc s) l = absurd (omega arith)
 
-pub before-lost : (w : List ℕ) (p s : ℕ) → 0 < s → holds_at most (page_in w p) (s - 1) 0 ≡ false → here_before w p s ≡ spot.End
-before-lost w p s l n = here-before w p s l ∙ after-lost w p (s - 1) n
-
 module _ (w ps ss : List ℕ) (q : PathIn w ps ss) where
-  said : (here : List ℕ → ℕ → ℕ → Spot) (found : (h : ℕ) → Tree h → ℕ → Spot) → ((p s : ℕ) → Inside p w → Within w (here w p s))
+  said : (here : List ℕ → ℕ → ℕ → Option Spot) (found : (h : ℕ) → Tree h → ℕ → Option Spot) → ((p s : ℕ) → Inside p w → Within w (here w p s))
       → ((low h : ℕ) (t : Tree h) (g : ℕ) → Sits w low h t → g ≤ size h t → deepest (here w) (gap_pages h t g) (gap_slots h t g) ≡ found h t g)
-      → {r : Spot} → r ≡ deepest (here w) ps ss → Spots here found w ps ss r
+      → {r : Option Spot} → r ≡ deepest (here w) ps ss → Spots here found w ps ss r
   said here found inside along e = record {
     looked = e;
-    within = λ p s i. within-path (here w) w ps ss inside q.inside p s (sym e ∙ i);
+    within = λ x i. within-path (here w) w ps ss inside q.inside x (sym e ∙ i);
     exact = λ low h t g u b a. e ∙ ap₂ (deepest (here w)) a.pages a.slots ∙ along low h t g u b;
   }
 
-  after-said : {r : Spot} → r ≡ deepest (here_after w) ps ss → SpotAfter w ps ss r
+  after-said : {r : Option Spot} → r ≡ deepest (here_after w) ps ss → SpotAfter w ps ss r
   after-said = said here_after spot_of (within-after w) (path-after w)
 
-  before-said : {r : Spot} → r ≡ deepest (here_before w) ps ss → SpotBefore w ps ss r
+  before-said : {r : Option Spot} → r ≡ deepest (here_before w) ps ss → SpotBefore w ps ss r
   before-said = said here_before spot_before (within-before w) (path-before w)
 
-  module _ (i : ℕ) where
-    pub after_none : Left (here_after w) ps ss i → i ≤ 0 → SpotAfter w ps ss spot.End
-    after_none a z = after-said (left-none (here_after w) ps ss i a z)
+-- in turn, from the leaf upward: the last page that is left has it, or has none and is left out, or none is left
+module _ {w ps ss : List ℕ} {i : ℕ} (q : PathIn w ps ss) (a : Left (here_after w) ps ss i) where
+  pub after-here : 0 < i → holds_at most (page_in w (get_or ps (i - 1) 0)) (get_or ss (i - 1) 0) 0 ≡ true
+      → SpotAfter w ps ss (Some (spot (get_or ps (i - 1) 0) (get_or ss (i - 1) 0)))
+  unfolding here_after
+  after-here l y = after-said w ps ss q (sym (left-last (here_after w) q.even a l ∙ rw y))
 
-    pub before-none : Left (here_before w) ps ss i → i ≤ 0 → SpotBefore w ps ss spot.End
-    before-none a z = before-said (left-none (here_before w) ps ss i a z)
+  pub after-lost : 0 < i → holds_at most (page_in w (get_or ps (i - 1) 0)) (get_or ss (i - 1) 0) 0 ≡ false → Left (here_after w) ps ss (i - 1)
+  unfolding here_after
+  after-lost l n = left_less (here_after w) q.even a l (rw n)
 
-    module _ (j : ℕ) (u : i ≡ suc j) where
-      abbrev p : ℕ
-      p = get_or ps j 0
+  pub after_none : i ≡ 0 → SpotAfter w ps ss None
+  after_none z = after-said w ps ss q (left-none (here_after w) a z)
 
-      abbrev s : ℕ
-      s = get_or ss j 0
+module _ {w ps ss : List ℕ} {i : ℕ} (q : PathIn w ps ss) (a : Left (here_before w) ps ss i) where
+  pub before_here : 0 < i → 0 < get_or ss (i - 1) 0 → holds_at most (page_in w (get_or ps (i - 1) 0)) (get_or ss (i - 1) 0 - 1) 0 ≡ true
+      → SpotBefore w ps ss (Some (spot (get_or ps (i - 1) 0) (get_or ss (i - 1) 0 - 1)))
+  unfolding here_after
+  before_here l m y =
+      before-said w ps ss q (sym (left-last (here_before w) q.even a l ∙ rw (here-before w (get_or ps (i - 1) 0) (get_or ss (i - 1) 0) m, y)))
 
-      pub after-here : Left (here_after w) ps ss i → holds_at most (page_in w p) s 0 ≡ true → SpotAfter w ps ss (spot.At p s)
-      unfolding here_after
-      after-here a y = after-said (sym (left-last (here_after w) ps ss i j q.even a u ∙ rw y))
+  pub before-lost : 0 < i → 0 < get_or ss (i - 1) 0 → holds_at most (page_in w (get_or ps (i - 1) 0)) (get_or ss (i - 1) 0 - 1) 0 ≡ false
+      → Left (here_before w) ps ss (i - 1)
+  unfolding here_after
+  before-lost l m n = left_less (here_before w) q.even a l (here-before w (get_or ps (i - 1) 0) (get_or ss (i - 1) 0) m ∙ rw n)
 
-      pub before_here : Left (here_before w) ps ss i → 0 < s → holds_at most (page_in w p) (s - 1) 0 ≡ true → SpotBefore w ps ss (spot.At p (s - 1))
-      unfolding here_after
-      before_here a l y = before-said (sym (left-last (here_before w) ps ss i j q.even a u ∙ rw (here-before w p s l, y)))
+  pub before-past : 0 < i → get_or ss (i - 1) 0 ≤ 0 → Left (here_before w) ps ss (i - 1)
+  before-past l z = left_less (here_before w) q.even a l (before-first w (get_or ps (i - 1) 0) (get_or ss (i - 1) 0) z)
+
+  pub before-none : i ≡ 0 → SpotBefore w ps ss None
+  before-none z = before-said w ps ss q (left-none (here_before w) a z)

@@ -8,6 +8,7 @@ use mathlib.Core.List.{List, [], ◌∷◌}
 use Prim.Native.Nat.{ℕ, zero, suc, ◌≤◌, ◌<◌}
 use native.Mathlib.Omega.{arith}
 use lib.ListN.{length, drop, get_or}
+use Rattle.std.specs.Prelude.{None, Ok}
 use Rattle.model.specs.Tree.{Entry, Tree, no_entry, no_tree, entries, size, Rising, Shaped}
 use Rattle.model.specs.Entries.{next, prev, forth, back, gap_of}
 use Rattle.model.specs.Gap.{slot_at, rest_at, child, child_at}
@@ -15,11 +16,9 @@ use Rattle.model.specs.Path.{gap_pages, gap_slots, seek_pages, seek_slots}
 use Rattle.lend.specs.Pages.{least}
 use Rattle.tree.specs.declared.search.Aim.{Aim}
 use Rattle.tree.specs.declared.search.Aim.TheVariants.{Start, End}
-use Rattle.tree.specs.declared.steps.Step.{Step}
-use Rattle.tree.specs.declared.steps.Step.TheVariants as step
 use Rattle.tree.specs.Sits.{PathIn, PathOf, Sits}
 use Rattle.tree.specs.Search.{aimed}
-use Rattle.tree.specs.Steps.{step_by, Steps, Overs}
+use Rattle.tree.specs.Steps.{Step, step_by, Steps, Overs}
 use Rattle.model.proofs.Cases.{either_lt, never}
 use Rattle.model.proofs.Basics.{next-some, next-none}
 use Rattle.model.proofs.Entries.{gap-start, gap-end}
@@ -152,7 +151,7 @@ rising-child w low h t i s r b =
 
 -- ---- a step
 
-step-none : (o : Option Entry) → step.End ≡ step_by o → o ≡ none
+step-none : (o : Option Entry) → Ok None ≡ step_by o → o ≡ none
 step-none none e = refl
 step-none (some y) e = never (cc)
 
@@ -160,11 +159,11 @@ module _ (over : ℕ → List Entry → Option Entry) (to : Option Entry → ℕ
   -- where nothing stands over the gap, nothing is done
   pub step-still : {ps ss : List ℕ}
       → ((low h : ℕ) (t : Tree h) (g : ℕ) → Sits w low h t → Rising (entries h t) → g ≤ size h t → PathOf h t g ps ss → over g (entries h t) ≡ none)
-      → Steps over to w ps ss ps ss step.End
+      → Steps over to w ps ss ps ss (Ok None)
   step-still f = record {
     pages = refl;
     slots = refl;
-    inside = λ k v e. never (cc);
+    inside = λ x e. never (cc);
     still = λ _. (refl, refl);
     exact = λ low h t g s r b a. rw (f low h t g s r b a);
     path = λ low h t g s r b a. rw (f low h t g s r b a, way.stays g) a;
@@ -185,12 +184,12 @@ module _ (over : ℕ → List Entry → Option Entry) (to : Option Entry → ℕ
       (c.exact least h (child_at h t g) (rest_at h t g) v r f d, c.path least h (child_at h t g) (rest_at h t g) v r f d)
 
   -- what the child answers, other than that it is at its end
-  pub step-below : {p s : ℕ} {ps ss ps' ss' : List ℕ} {r : Step} → PathIn w (p ∷ ps) (s ∷ ss) → (r ≡ step.End → ⊥) → Steps over to w ps ss ps' ss' r
+  pub step-below : {p s : ℕ} {ps ss ps' ss' : List ℕ} {r : Step} → PathIn w (p ∷ ps) (s ∷ ss) → (r ≡ Ok None → ⊥) → Steps over to w ps ss ps' ss' r
       → Steps over to w (p ∷ ps) (s ∷ ss) (p ∷ ps') (s ∷ ss') r
   step-below {p} {s} {ps} {ss} {ps'} {ss'} {r} q n c = record {
     pages = ap suc c.pages;
     slots = ap suc c.slots;
-    inside = λ k v e. let i = c.inside k v e in record { even = ap suc i.even; inside = (q.inside.0, i.inside); slots = (q.slots.0, i.slots) };
+    inside = λ x e. let i = c.inside x e in record { even = ap suc i.even; inside = (q.inside.0, i.inside); slots = (q.slots.0, i.slots) };
     still = λ e. absurd (n e);
     exact = λ low h t g s r b a. (both low h t g s r b a).0;
     path = λ low h t g s r b a. (both low h t g s r b a).1;
@@ -211,10 +210,10 @@ module _ (over : ℕ → List Entry → Option Entry) (to : Option Entry → ℕ
               rw (v.0, d.0, d.1) (x.0, path-up h t (to (some y) g) v.1 v.2 x.1)
 
   -- the child is at its end, and the page too
-  pub step_end : {p s : ℕ} {ps ss ps₁ ss₁ : List ℕ} → Steps over to w ps ss ps₁ ss₁ step.End
+  pub step_end : {p s : ℕ} {ps ss ps₁ ss₁ : List ℕ} → Steps over to w ps ss ps₁ ss₁ (Ok None)
       → ((low h : ℕ) (t : Tree (suc h)) (g : ℕ) → Sits w low (suc h) t → g ≤ size (suc h) t → s ≡ slot_at h t g
       → over (rest_at h t g) (entries h (child_at h t g)) ≡ none → over g (entries (suc h) t) ≡ none)
-      → Steps over to w (p ∷ ps) (s ∷ ss) (p ∷ ps) (s ∷ ss) step.End
+      → Steps over to w (p ∷ ps) (s ∷ ss) (p ∷ ps) (s ∷ ss) (Ok None)
   step_end {p} {s} {ps} {ss} {ps₁} {ss₁} c seam = step-still last
     where
       last : (low h : ℕ) (t : Tree h) (g : ℕ) → Sits w low h t → Rising (entries h t) → g ≤ size h t → PathOf h t g (p ∷ ps) (s ∷ ss) → over g (entries h t) ≡ none
@@ -223,7 +222,7 @@ module _ (over : ℕ → List Entry → Option Entry) (to : Option Entry → ℕ
           seam low h t g u b (path-down h t g a).1 (step-none (over (rest_at h t g) (entries h (child_at h t g))) (told_below c low h t g u up b a).0)
 
   -- where the child is at its end, over the page's own entry
-  pub step-over : {p s₀ s i : ℕ} {aim : Aim} {ps ss ps₁ ss₁ ps' ss' : List ℕ} {r : Step} → Steps over to w ps ss ps₁ ss₁ step.End
+  pub step-over : {p s₀ s i : ℕ} {aim : Aim} {ps ss ps₁ ss₁ ps' ss' : List ℕ} {r : Step} → Steps over to w ps ss ps₁ ss₁ (Ok None)
       → ((low h : ℕ) (t : Tree (suc h)) (g : ℕ) → Sits w low (suc h) t → g ≤ size (suc h) t → s₀ ≡ slot_at h t g
       → over (rest_at h t g) (entries h (child_at h t g)) ≡ none → Seam over to aim s i h t g)
       → Overs w s i aim (p ∷ ps) (s₀ ∷ ss) ps' ss' r → Steps over to w (p ∷ ps) (s₀ ∷ ss) ps' ss' r

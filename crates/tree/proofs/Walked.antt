@@ -15,8 +15,7 @@ use Rattle.model.specs.PageMap.{bit_at}
 use Rattle.model.specs.Tree.{Entry, Tree, weave, entries, times, Rising, Shaped}
 use Rattle.model.specs.Page.{count_of, height_of, entries_of, children_of, read_tree, Heights}
 use Rattle.lend.specs.Pages.{least, most, page_in, map_in}
-use Rattle.tree.specs.declared.check.Tally.TheVariants as tally
-use Rattle.tree.specs.Check.{stand_tests, in_turn, over_tree}
+use Rattle.tree.specs.Check.{stand_tests, told, broken, in_turn, over_tree}
 use Rattle.model.proofs.Numbers.{pages_below}
 use Rattle.model.proofs.Cases.{either, either_lt, either-eq, contrary, same_self, same-other}
 use Rattle.model.proofs.Basics.{all_map, all_both, all-image, every_true, every-all}
@@ -152,7 +151,7 @@ module _ (w : List ℕ) (h p : ℕ) where
 
 -- ---- the walk
 
-pub over-stop : (w : List ℕ) (h p low : ℕ) → over_tree w h p low tally.Broken ≡ tally.Broken
+pub over-stop : (w : List ℕ) (h p low : ℕ) → over_tree w h p low broken ≡ broken
 unfolding over_tree
 over-stop w zero p low = refl
 over-stop w (suc h) p low = refl
@@ -161,7 +160,7 @@ over-stop w (suc h) p low = refl
 abbrev pub GoesBelow : List ℕ → (h p low a b k : ℕ) → List Entry → Type 0
 GoesBelow w h p low a b k es =
     Goes (Fine w h p low × Follows w a es (pages_below h (tree_at w h p)) (entries h (tree_at w h p))) (a + pages_below h (tree_at w h p))
-    (es ++ entries h (tree_at w h p)) (over_tree w h p low (tally.Of a b k))
+    (es ++ entries h (tree_at w h p)) (over_tree w h p low (told a b k))
 
 module _ (w : List ℕ) (h p low a b k : ℕ) (es : List Entry) (l : a ≤ pages_in today (length w)) (m : Met es b k)
     (one : (c a b k : ℕ) (es : List Entry) → a ≤ pages_in today (length w) → Met es b k → GoesBelow w h c least a b k es) where
@@ -183,7 +182,7 @@ module _ (w : List ℕ) (h p low a b k : ℕ) (es : List Entry) (l : a ≤ pages
   abbrev Parts : Type 0
   Parts = All (λ c. Fine w h c least) (cs w h p) × Follows w (a + 1) es n xs
 
-  inside-goes : a + 1 ≤ pages_in today (length w) → Goes Parts (a + 1 + n) (es ++ xs) (in_turn w (λ c. over_tree w h c least) (cs w h p) (os w h p) (tally.Of (a + 1) b k))
+  inside-goes : a + 1 ≤ pages_in today (length w) → Goes Parts (a + 1 + n) (es ++ xs) (in_turn w (λ c. over_tree w h c least) (cs w h p) (os w h p) (told (a + 1) b k))
   inside-goes l' =
       turn-goes w (λ c. over_tree w h c least) (λ c. over-stop w h c least) inside size (λ c. Fine w h c least) one (cs w h p) (os w h p) (a + 1) b k es
       (simp (length-own, length-children)) l' m
@@ -211,7 +210,7 @@ module _ (w : List ℕ) (h p low a b k : ℕ) (es : List Entry) (l : a ≤ pages
       (let i = ltb-true p (pages_in today (length w)) y in
       let t = ltb-true a (pages_in today (length w)) (every_true (stand_tests w p h low a) z).0 in
       let e = tree-pages w h p in
-      let walk = in_turn w (λ c. over_tree w h c least) (cs w h p) (os w h p) (tally.Of (a + 1) b k) in
+      let walk = in_turn w (λ c. over_tree w h c least) (cs w h p) (os w h p) (told (a + 1) b k) in
       goes_map Parts Whole _ _ walk (parts_whole (page-tests w h p low a z i)) whole_parts
       (goes-as Parts (a + 1 + n) _ (es ++ xs) _ walk (omega arith) (ap (λ (r : List Entry). es ++ r) (tree-entries w h p)) (inside-goes (omega arith)))))
       (λ z. rw z (λ g. contrary (whole-tests g) z))))

@@ -9,6 +9,7 @@ use native.Mathlib.Omega.{arith}
 use lib.ListN.{length, take, drop, get_or, set, length-set}
 use lib.Seq.{map-set_same, get_or-set_same, get_or-set_other}
 use borrow.Author.Tests.{lt-ltb, le-ltb}
+use Rattle.std.specs.Prelude.{Option, Some, None, Result}
 use Rattle.model.specs.Basics.{All, sum, same}
 use Rattle.model.specs.Layout.{most_entries, first_word, word, today}
 use Rattle.model.specs.Tree.{Entry, Tree, no_entry, no_tree, entries, size, times, Shaped, held, entry, Formed, meets}
@@ -20,13 +21,11 @@ use Rattle.model.specs.Pool.{Pool, held_by, pool_of}
 use Rattle.model.specs.Sound.{Sound}
 use Rattle.model.specs.Written.{Written}
 use Rattle.model.specs.Head.{geometry_of}
-use Rattle.page.specs.declared.Change.{Change}
 use Rattle.page.specs.Node.{instead}
 use Rattle.page.specs.Page.{holds_at}
 use Rattle.lend.specs.Pages.{least, most, ChangesIn, node_in, page_in}
 use Rattle.tree.specs.declared.steps.Spot.{Spot}
-use Rattle.tree.specs.declared.steps.Spot.TheVariants as spot
-use Rattle.tree.specs.Steps.{spot_of}
+use Rattle.tree.specs.Steps.{spot, spot_of}
 use Rattle.tree.specs.Write.{Writes}
 use Rattle.model.proofs.Cases.{either_lt, same_self, same-eq, either-eq, never}
 use Rattle.model.proofs.Basics.{all-at, front-word}
@@ -42,6 +41,7 @@ use Rattle.lend.proofs.Lent.{own_at}
 use Rattle.lend.proofs.Touching.{only-map}
 use Rattle.tree.proofs.Spots.{spot-some, spot-end}
 use Rattle.tree.proofs.Leaving.{Leaves, leaves-written, head-word, key-stays, written-bits, written_stands, written-formed}
+use Rattle.page.specs.declared.Unsound.{Unsound}
 
 -- ---- entry g of a tree, at slot s of page p
 
@@ -52,8 +52,8 @@ pub record Spotted (m : ℕ) (pages : ℕ → List ℕ) (h : ℕ) (t : Tree h) (
   pub entry : get_or (entries h t) g no_entry ≡ get_or (entries_of (most_entries m) (pages p)) s no_entry
 
 -- where it is in a child, or at the page itself
-pub either-spot : {C : Type 0} (m low h : ℕ) (t : Tree (suc h)) (g p s : ℕ) → Shaped m low (suc h) t → g < size (suc h) t → spot_of (suc h) t g ≡ spot.At p s
-    → (rest_at h t g < size h (child_at h t g) → spot_of h (child_at h t g) (rest_at h t g) ≡ spot.At p s → C)
+pub either-spot : {C : Type 0} (m low h : ℕ) (t : Tree (suc h)) (g p s : ℕ) → Shaped m low (suc h) t → g < size (suc h) t → spot_of (suc h) t g ≡ Some (spot p s)
+    → (rest_at h t g < size h (child_at h t g) → spot_of h (child_at h t g) (rest_at h t g) ≡ Some (spot p s) → C)
     → (size h (child_at h t g) ≤ rest_at h t g → slot_at h t g < length t.own → t.page ≡ p → slot_at h t g ≡ s → C)
     → C
 unfolding spot_of Shaped entries
@@ -65,11 +65,12 @@ either-spot m low h t g p s f b e deeper here =
     (λ outer.
     let o : slot_at h t g < length t.own =
     located-own (entries h) t.children t.own (no_tree h) g (slot_at h t g) r f.forks (way_down m low h t g f (omega arith)) outer b in
-    let e' : spot.At t.page (slot_at h t g) ≡ spot.At p s = rw (le-ltb r n outer, lt-ltb (slot_at h t g) (length t.own) o) at e in
-    here outer o (cc) (cc))
+    let e' : Some (spot t.page (slot_at h t g)) ≡ Some (spot p s) = rw (le-ltb r n outer, lt-ltb (slot_at h t g) (length t.own) o) at e in
+    let same : spot t.page (slot_at h t g) ≡ spot p s = cc in
+    here outer o (ap (λ (x : Spot). x.page) same) (ap (λ (x : Spot). x.slot) same))
 
 pub spotted : (m low : ℕ) (pages : ℕ → List ℕ) (h : ℕ) (t : Tree h) (g p s : ℕ) → Shaped m low h t → Standing m pages h t → g < size h t
-    → spot_of h t g ≡ spot.At p s → Spotted m pages h t g p s
+    → spot_of h t g ≡ Some (spot p s) → Spotted m pages h t g p s
 unfolding Shaped Standing times entries
 spotted m low pages zero t g p s f a b e = absurd (omega arith)
 spotted m low pages (suc h) t g p s f a b e =
@@ -114,7 +115,7 @@ module _ (m : ℕ) (pages pages' : ℕ → List ℕ) (p s : ℕ) (e : Entry) (ot
   apart-stand h ts z = all-standing m pages pages' h ts (λ q l. others q (λ e. omega (arith, ap (λ (x : ℕ). sum (times x h) ts) e)))
 
   pub write-stands : (low h : ℕ) (t : Tree h) (g : ℕ) → Shaped m low h t → Standing m pages h t → g < size h t → ((q : ℕ) → times q h t ≤ 1)
-      → spot_of h t g ≡ spot.At p s → Standing m pages' h (write_at h t g e)
+      → spot_of h t g ≡ Some (spot p s) → Standing m pages' h (write_at h t g e)
   unfolding Shaped Standing times write_at
   write-stands low zero t g f a b once at = tt
   write-stands low (suc h) t g f a b once at =
@@ -166,7 +167,7 @@ set-keys es g e b k i =
     (λ same. rw (same, get_or-set_same es g e no_entry b) k)
     (λ other. ap (λ (x : Entry). x.key) (get_or-set_other es g i e no_entry other))
 
-module _ (w : List ℕ) (P : Pool) (r : Right P) (a : Written w P) (g p s : ℕ) (b : g < length (held_by P)) (at : spot_of P.whole.levels P.whole.tree g ≡ spot.At p s) where
+module _ (w : List ℕ) (P : Pool) (r : Right P) (a : Written w P) (g p s : ℕ) (b : g < length (held_by P)) (at : spot_of P.whole.levels P.whole.tree g ≡ Some (spot p s)) where
   pool-spotted : Spotted least (page_in w) P.whole.levels P.whole.tree g p s
   unfolding held Formed
   pool-spotted = spotted least 1 (page_in w) P.whole.levels P.whole.tree g p s (written-formed a r) (written_stands a) b at
@@ -176,7 +177,7 @@ module _ (w : List ℕ) (P : Pool) (r : Right P) (a : Written w P) (g p s : ℕ)
   unfolding held
   spot-entry = own_at (page_in w p) s pool-spotted.slot ∙ sym pool-spotted.entry
 
-  pub write-leaves : (w' : List ℕ) (e : Entry) (c : Change) → e.key ≡ (get_or (held_by P) g no_entry).key
+  pub write-leaves : (w' : List ℕ) (e : Entry) (c : Result (Unit {0}) Unsound) → e.key ≡ (get_or (held_by P) g no_entry).key
       → ChangesIn p (holds_at most (page_in w p) s 0) (instead s e (node_in w p)) w w' c → Leaves w P (write P.whole g e) w'
   unfolding held Formed meets write
   write-leaves w' e c k changes =
@@ -198,10 +199,10 @@ module _ (w : List ℕ) (P : Pool) (r : Right P) (a : Written w P) (g p s : ℕ)
 
 -- in a sound pool: what the spot of a gap says of the entry after it
 module _ (w : List ℕ) (sound : Sound w) (g : ℕ) (within : g ≤ length (held_by (pool_of w))) where
-  abbrev spotted-by : Spot
+  abbrev spotted-by : Option Spot
   spotted-by = spot_of (pool_of w).whole.levels (pool_of w).whole.tree g
 
-  pub spot-there : {p s : ℕ} → spotted-by ≡ spot.At p s → (g < length (held_by (pool_of w))) × (entry_in most (page_in w p) s ≡ get_or (held_by (pool_of w)) g no_entry)
+  pub spot-there : {p s : ℕ} → spotted-by ≡ Some (spot p s) → (g < length (held_by (pool_of w))) × (entry_in most (page_in w p) s ≡ get_or (held_by (pool_of w)) g no_entry)
   unfolding held Formed pool_of geometry_of
   spot-there {p} {s} e =
       let P = pool_of w in
@@ -211,18 +212,18 @@ module _ (w : List ℕ) (sound : Sound w) (g : ℕ) (within : g ≤ length (held
       (λ l. never (cc (e, spot-end least 1 P.whole.levels P.whole.tree g right.formed (omega arith)))) in
       (there, spot-entry w P right (sound-written w sound) g p s there e)
 
-  pub spot_past : spotted-by ≡ spot.End → length (held_by (pool_of w)) ≤ g
+  pub spot_past : spotted-by ≡ None → length (held_by (pool_of w)) ≤ g
   unfolding held Formed pool_of geometry_of
   spot_past e =
       let P = pool_of w in
       either_lt g (length (held_by P))
       (λ l.
-      let some = spot-some least 1 P.whole.levels P.whole.tree g (sound-right w sound).formed l (spot.At 0 0) in
+      let some = spot-some least 1 P.whole.levels P.whole.tree g (sound-right w sound).formed l (Some (spot 0 0)) in
       never (cc (rw e at some)))
       (λ l. l)
 
 -- the value of the entry that is read is put into its place
-pub writes : (w w' : List ℕ) (p s key before v : ℕ) (c : Change) → entry key before ≡ entry_in most (page_in w p) s
+pub writes : (w w' : List ℕ) (p s key before v : ℕ) (c : Result (Unit {0}) Unsound) → entry key before ≡ entry_in most (page_in w p) s
     → ChangesIn p (holds_at most (page_in w p) s 0) (instead s (entry key v) (node_in w p)) w w' c → Writes p s v w w' before
 writes w w' p s key before v c e changes = record {
   only = changes.only;

@@ -2,7 +2,7 @@
 -- right number of entries; keys rise over the whole walk, so that no page is met twice; no more pages are met than
 -- there are. What the walk carries: pages and entries met, and the last key.
 -- Assumes nothing: these are definitions.
-use Rattle.std.specs.Prelude.{◌≡◌, Bool, true, cond, List, [], ◌∷◌, ℕ, zero, suc, ◌+◌, ◌*◌, ◌≤◌, leb, ltb, eqb, length}
+use Rattle.std.specs.Prelude.{◌≡◌, Bool, true, cond, List, [], ◌∷◌, ℕ, zero, suc, ◌+◌, ◌*◌, ◌≤◌, leb, ltb, eqb, length, Result, Ok, Err}
 use Rattle.model.specs.Basics.{every}
 use Rattle.model.specs.Layout.{pages_in, today}
 use Rattle.model.specs.Head.{open_word, after_word, key_word, kind_word}
@@ -12,8 +12,8 @@ use Rattle.model.specs.Page.{count_of, height_of, entry_in, entries_of, children
 use Rattle.model.specs.Entries.{has}
 use Rattle.model.specs.Pool.{whole_of}
 use Rattle.lend.specs.Pages.{least, most, page_in, map_in}
+use Rattle.page.specs.declared.Unsound.{Unsound}
 use Rattle.tree.specs.declared.check.Tally.{Tally}
-use Rattle.tree.specs.declared.check.Tally.TheVariants as tally
 use Rattle.tree.specs.Sits.{Sits}
 
 -- ---- one page
@@ -41,41 +41,52 @@ value_fits w value = cond (eqb (kind_word w) 1) (eqb value 0) true
 abbrev pub entry_tests : List ℕ → Entry → ℕ → ℕ → List Bool
 entry_tests w e count last = key_rises count last e.key ∷ value_fits w e.value ∷ []
 
--- what the walk has met with it; a walk that has broken off stays so
-unfoldable pub over_entry : List ℕ → Entry → Tally → Tally
-over_entry w e (tally.Of pages count last) = cond (every (entry_tests w e count last)) (tally.Of pages (count + 1) e.key) tally.Broken
-over_entry w e tally.Broken = tally.Broken
+-- ---- what a walk says: what it has met, or that it has broken off
+
+abbrev pub Said : Type 0
+Said = Result Tally Unsound
+
+abbrev pub told : ℕ → ℕ → ℕ → Said
+told pages entries last = Ok (record { pages = pages; entries = entries; last = last })
+
+abbrev pub broken : Said
+broken = Err (record {})
+
+-- what the walk has met with an entry; a walk that has broken off stays so
+unfoldable pub over_entry : List ℕ → Entry → Said → Said
+over_entry w e (Ok t) = cond (every (entry_tests w e t.entries t.last)) (told t.pages (t.entries + 1) e.key) broken
+over_entry w e (Err u) = Err u
 
 -- entry i of page p, where it is one of n
-unfoldable pub over_entry_at : List ℕ → ℕ → ℕ → ℕ → Tally → Tally
+unfoldable pub over_entry_at : List ℕ → ℕ → ℕ → ℕ → Said → Said
 over_entry_at w p i n r = cond (ltb i n) (over_entry w (entry_in most (page_in w p) i) r) r
 
 -- ---- the walk
 
 -- over a page's children and entries in walking order. `f` says how a child is walked
-unfoldable pub in_turn : List ℕ → (ℕ → Tally → Tally) → List ℕ → List Entry → Tally → Tally
+unfoldable pub in_turn : List ℕ → (ℕ → Said → Said) → List ℕ → List Entry → Said → Said
 in_turn w f [] es r = r
 in_turn w f (c ∷ cs) [] r = f c r
 in_turn w f (c ∷ cs) (e ∷ es) r = in_turn w f cs es (over_entry w e (f c r))
 
 -- over the tree of h levels whose root is page p, inside the pool or not
-unfoldable pub over_tree : List ℕ → (h p low : ℕ) → Tally → Tally
+unfoldable pub over_tree : List ℕ → (h p low : ℕ) → Said → Said
 over_tree w zero p low r = r
-over_tree w (suc h) p low tally.Broken = tally.Broken
-over_tree w (suc h) p low (tally.Of pages count last) =
-    cond (every (ltb p (pages_in today (length w)) ∷ stand_tests w p h low pages))
-    (in_turn w (λ c. over_tree w h c least) (children_of most (page_in w p)) (entries_of most (page_in w p)) (tally.Of (pages + 1) count last))
-    tally.Broken
+over_tree w (suc h) p low (Err u) = Err u
+over_tree w (suc h) p low (Ok t) =
+    cond (every (ltb p (pages_in today (length w)) ∷ stand_tests w p h low t.pages))
+    (in_turn w (λ c. over_tree w h c least) (children_of most (page_in w p)) (entries_of most (page_in w p)) (told (t.pages + 1) t.entries t.last))
+    broken
 
 -- on any words: no more pages than there are, and at most nine entries a page
-abbrev pub Few : List ℕ → ℕ → ℕ → Tally → Type 0
-Few w pages count (tally.Of a b k) = (a ≤ pages_in today (length w)) × (b + most * pages ≤ count + most * a)
-Few w pages count tally.Broken = Unit {0}
+abbrev pub Few : List ℕ → Tally → Said → Type 0
+Few w t (Ok r) = (r.pages ≤ pages_in today (length w)) × (r.entries + most * t.pages ≤ t.entries + most * r.pages)
+Few w t (Err u) = Unit {0}
 
 -- over page p, of height h, and all below it
-pub record Walks (w : List ℕ) (p h low pages count last : ℕ) (r : Tally) : Type 0 where
-  pub few : Few w pages count r
-  pub exact : r ≡ over_tree w (suc h) p low (tally.Of pages count last)
+pub record Walks (w : List ℕ) (p h low : ℕ) (t : Tally) (r : Said) : Type 0 where
+  pub few : Few w t r
+  pub exact : r ≡ over_tree w (suc h) p low (Ok t)
 
 -- ---- the cursor
 

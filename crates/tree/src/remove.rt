@@ -1,6 +1,7 @@
 // Removal along a path: the entry after its gap goes. All pages that will be read are looked at before the first store.
 // An entry of an upper page is replaced by the greatest below its left child, which comes up from the leaf; pages left
-// with three are mended, from the leaf upward.
+// with three are mended, from the leaf upward. What a page refuses there is dropped (`let _`): in a sound pool nothing
+// is, since all was looked at before.
 ghost use Rattle.std.specs.Prelude.{◌≡◌, true, [], ◌∷◌, ◌≤◌, leb, length};
 ghost use Rattle.model.specs.Basics.{every};
 ghost use Rattle.model.specs.Layout.{today, most_levels, first_word};
@@ -12,17 +13,9 @@ ghost use Rattle.tree.specs.Remove.{count_below, plan_by, Plans, MovesLeft, Move
 ghost use Rattle.model.specs.Mend as mends;
 
 use crate::search;
-use crate::search::Below;
 use lend::{bits, pages};
 use model::{COUNT, LEAST, LEVELS, MOST, ROOT};
-use page::Change;
-
-// What a removal below hands up: nothing, or the last entry below, which is to take the place of the one after it.
-#[derive(Clone, Copy)]
-pub enum Gone {
-    Taken,
-    Last(u64, u64),
-}
+use page::{Entry, Unsound};
 
 // How a page left with three is mended, by neighbours j and j + 1: the left one gives an entry, the right one does, or
 // they join.
@@ -40,8 +33,8 @@ fn count_below(pool: &[u64], u: usize, at: usize) -> usize
     ensures { result ≡ count_below pool.now u at }
 {
     match search::child(pool, u, at) {
-        Below::Page(c) => pages::count(pool, c),
-        Below::Unsound => 0,
+        Ok(c) => pages::count(pool, c),
+        Err(_) => 0,
     }
 }
 
@@ -50,20 +43,13 @@ fn repair(pool: &[u64], u: usize, i: usize) -> Mending
     requires { (first_word today 0 ≤ length pool.now) × Inside u pool.now × (i ≤ most) }
     ensures { plan_by (count_below pool.now u) result ≡ mends.repair least (count_of (page_in pool.now u)) (count_below pool.now u) i }
 {
-    if 0 < i {
-        if LEAST < count_below(pool, u, i - 1) {
-            return Mending::Left(i - 1);
-        }
+    if 0 < i && LEAST < count_below(pool, u, i - 1) {
+        return Mending::Left(i - 1);
     }
-    if i < pages::count(pool, u) {
-        if LEAST < count_below(pool, u, i + 1) {
-            return Mending::Right(i);
-        }
+    if i < pages::count(pool, u) && LEAST < count_below(pool, u, i + 1) {
+        return Mending::Right(i);
     }
-    if 0 < i {
-        return Mending::Join(i - 1);
-    }
-    Mending::Join(0)
+    Mending::Join(i.saturating_sub(1))
 }
 
 // Whether child `i` of page `u` is to be mended, and how.
@@ -72,123 +58,104 @@ fn plan(pool: &[u64], u: usize, i: usize) -> Mending
     ensures { Plans pool.now u i result }
 {
     if LEAST <= count_below(pool, u, i) {
-        return Mending::Keep;
+        Mending::Keep
+    } else {
+        repair(pool, u, i)
     }
-    repair(pool, u, i)
 }
 
 // Child `j` of page `u` gives its last entry to child `j + 1`, through the page.
-fn move_left(pool: &mut [u64], u: usize, j: usize)
+fn move_left(pool: &mut [u64], u: usize, j: usize) -> Result<(), Unsound>
     requires { (first_word today 0 ≤ length pool.old) × Inside u pool.old × (j ≤ most) }
     ensures { MovesLeft u j pool.old pool.new }
 {
-    let Below::Page(l) = search::child(pool, u, j) else {
-        return;
-    };
-    let Below::Page(r) = search::child(pool, u, j + 1) else {
-        return;
-    };
-    pages::take_left(pool, u, j, l, r);
+    let l = search::child(pool, u, j)?;
+    let r = search::child(pool, u, j + 1)?;
+    pages::take_left(pool, u, j, l, r)
 }
 
 // Child `j + 1` of page `u` gives its first entry to child `j`, through the page.
-fn move_right(pool: &mut [u64], u: usize, j: usize)
+fn move_right(pool: &mut [u64], u: usize, j: usize) -> Result<(), Unsound>
     requires { (first_word today 0 ≤ length pool.old) × Inside u pool.old × (j ≤ most) }
     ensures { MovesRight u j pool.old pool.new }
 {
-    let Below::Page(l) = search::child(pool, u, j) else {
-        return;
-    };
-    let Below::Page(r) = search::child(pool, u, j + 1) else {
-        return;
-    };
-    pages::take_right(pool, u, j, l, r);
+    let l = search::child(pool, u, j)?;
+    let r = search::child(pool, u, j + 1)?;
+    pages::take_right(pool, u, j, l, r)
 }
 
 // Children `j` and `j + 1` of page `u` become the left one, and the right one is freed.
-fn join(pool: &mut [u64], u: usize, j: usize)
+fn join(pool: &mut [u64], u: usize, j: usize) -> Result<(), Unsound>
     requires { (first_word today 0 ≤ length pool.old) × Inside u pool.old × (j ≤ most) }
     ensures { JoinsBelow u j pool.old pool.new }
 {
-    let Below::Page(l) = search::child(pool, u, j) else {
-        return;
-    };
-    let Below::Page(r) = search::child(pool, u, j + 1) else {
-        return;
-    };
-    if let Change::Done = pages::join(pool, u, j, l, r) {
-        bits::free(pool, r);
-    }
+    let l = search::child(pool, u, j)?;
+    let r = search::child(pool, u, j + 1)?;
+    pages::join(pool, u, j, l, r)?;
+    bits::free(pool, r);
+    Ok(())
 }
 
 // Child `i` of page `u` may be left with three.
-fn mend(pool: &mut [u64], u: usize, i: usize)
+fn mend(pool: &mut [u64], u: usize, i: usize) -> Result<(), Unsound>
     requires { (first_word today 0 ≤ length pool.old) × Inside u pool.old × (i ≤ most) }
     ensures { Mends u i pool.old pool.new }
 {
     match plan(pool, u, i) {
-        Mending::Keep => {}
+        Mending::Keep => Ok(()),
         Mending::Left(j) => move_left(pool, u, j),
         Mending::Right(j) => move_right(pool, u, j),
         Mending::Join(j) => join(pool, u, j),
     }
 }
 
-// The entry at slot `s` of a leaf goes, or its last.
-fn take_out(pool: &mut [u64], p: usize, s: usize) -> Gone
+// The entry at slot `s` of a leaf goes. Where there is none its last goes, which is handed up, to take the place of the
+// one after it.
+fn take_out(pool: &mut [u64], p: usize, s: usize) -> Option<Entry>
     requires { Inside p pool.old }
     ensures { TakesOut p s pool.old pool.new result }
 {
     let n = pages::count(pool, p);
     if s < n {
-        pages::remove(pool, p, s, 0);
-        return Gone::Taken;
+        let _ = pages::remove(pool, p, s, 0);
+        return None;
     }
-    if n == 0 {
-        return Gone::Taken;
+    if n == 0 || MOST < n {
+        return None;
     }
-    if MOST < n {
-        return Gone::Taken;
-    }
-    let e = pages::entry_at(pool, p, n - 1);
-    pages::remove(pool, p, n - 1, 0);
-    Gone::Last(e.key, e.value)
+    let last = pages::entry_at(pool, p, n - 1);
+    let _ = pages::remove(pool, p, n - 1, 0);
+    Some(last)
 }
 
 // What stands for entry `s` of an upper page.
-fn inherit(pool: &mut [u64], p: usize, s: usize, gone: Gone) -> Gone
+fn inherit(pool: &mut [u64], p: usize, s: usize, gone: Option<Entry>) -> Option<Entry>
     requires { Inside p pool.old }
     ensures { Inherits p s gone pool.old pool.new result }
 {
-    let Gone::Last(k, v) = gone else {
-        return Gone::Taken;
-    };
+    let heir = gone?;
     if s < pages::count(pool, p) {
-        pages::set_entry(pool, p, s, k, v);
-        return Gone::Taken;
+        let _ = pages::set_entry(pool, p, s, heir);
+        return None;
     }
-    Gone::Last(k, v)
+    Some(heir)
 }
 
 // From the leaf upward: the entry goes there, and each page above takes in what comes up and mends its child on the
-// path.
-// A page that hands nothing up, and whose child has enough, is the last: no page above it changes.
-fn remove_along(pool: &mut [u64], pages: &[usize], slots: &[usize]) -> Gone
+// path. A page that hands nothing up, and whose child has enough, is the last: no page above it changes.
+fn remove_along(pool: &mut [u64], pages: &[usize], slots: &[usize]) -> Option<Entry>
     requires today_in_bounds { (first_word today 0 ≤ length pool.old) × (1 ≤ length pages.now) }
     requires path_in { PathIn pool.old pages.now slots.now }
     ensures { RemovesBelow pool.old pages.now slots.now pool.new result }
 {
-    let mut i = pages.len() - 1;
-    let mut gone = take_out(pool, pages[i], slots[i]);
-    while 0 < i {
-        i -= 1;
+    let leaf = pages.len() - 1;
+    let mut gone = take_out(pool, pages[leaf], slots[leaf]);
+    for i in (0..leaf).rev() {
         gone = inherit(pool, pages[i], slots[i], gone);
-        if LEAST <= count_below(pool, pages[i], slots[i]) {
-            if let Gone::Taken = gone {
-                return Gone::Taken;
-            }
-        } else {
-            mend(pool, pages[i], slots[i]);
+        if count_below(pool, pages[i], slots[i]) < LEAST {
+            let _ = mend(pool, pages[i], slots[i]);
+        } else if gone.is_none() {
+            return None;
         }
     }
     gone
@@ -199,14 +166,8 @@ fn neighbour(pool: &[u64], u: usize, at: usize) -> bool
     requires { (first_word today 0 ≤ length pool.now) × Inside u pool.now }
     ensures { result ≡ every (leb least (count_below pool.now u at) ∷ leb (count_below pool.now u at) most ∷ []) }
 {
-    let Below::Page(c) = search::child(pool, u, at) else {
-        return false;
-    };
-    let n = pages::count(pool, c);
-    if n < LEAST {
-        return false;
-    }
-    n <= MOST
+    let n = count_below(pool, u, at);
+    LEAST <= n && n <= MOST
 }
 
 // Whether the neighbours of child `i` of page `u` are sound.
@@ -214,15 +175,10 @@ fn beside(pool: &[u64], u: usize, i: usize) -> bool
     requires { (first_word today 0 ≤ length pool.now) × Inside u pool.now × (i ≤ most) }
     ensures { Beside pool.now u i result }
 {
-    if 0 < i {
-        if !neighbour(pool, u, i - 1) {
-            return false;
-        }
+    if 0 < i && !neighbour(pool, u, i - 1) {
+        return false;
     }
-    if i < pages::count(pool, u) {
-        return neighbour(pool, u, i + 1);
-    }
-    true
+    pages::count(pool, u) <= i || neighbour(pool, u, i + 1)
 }
 
 // Whether all that a removal reads is sound: the neighbours of each page that may be left short, from the leaf upward.
@@ -231,9 +187,7 @@ fn can_remove(pool: &[u64], pages: &[usize], slots: &[usize]) -> bool
     requires path_in { PathIn pool.now pages.now slots.now }
     ensures { CanRemove pool.now pages.now slots.now result }
 {
-    let mut i = pages.len();
-    while 1 < i {
-        i -= 1;
+    for i in (1..pages.len()).rev() {
         if LEAST < pages::count(pool, pages[i]) {
             return true;
         }
@@ -258,7 +212,7 @@ fn lower_root(pool: &mut [u64], root: usize, levels: usize)
         bits::free(pool, root);
         return;
     }
-    let Below::Page(c) = search::child(pool, root, 0) else {
+    let Ok(c) = search::child(pool, root, 0) else {
         return;
     };
     pool[ROOT] = c as u64 + 1;
@@ -266,21 +220,18 @@ fn lower_root(pool: &mut [u64], root: usize, levels: usize)
     bits::free(pool, root);
 }
 
-// The entry after the path's gap goes.
-pub fn remove(pool: &mut [u64], pages: &[usize], slots: &[usize]) -> Change
+// The entry after the path's gap goes. Where that is refused no word has changed.
+pub fn remove(pool: &mut [u64], pages: &[usize], slots: &[usize]) -> Result<(), Unsound>
     requires pool_value { headed pool.old ≡ true }
     requires pages_len { length pages.now ≡ levels_word pool.old }
     requires path_in { PathIn pool.old pages.now slots.now }
     ensures { Removes pool.old pages.now slots.now pool.new result }
 {
-    if pages.len() == 0 {
-        return Change::Unsound;
-    }
-    if !can_remove(pool, pages, slots) {
-        return Change::Unsound;
+    if pages.is_empty() || !can_remove(pool, pages, slots) {
+        return Err(Unsound);
     }
     remove_along(pool, pages, slots);
     lower_root(pool, pages[0], pages.len());
-    pool[COUNT] = pool[COUNT] - 1;
-    Change::Done
+    pool[COUNT] -= 1;
+    Ok(())
 }

@@ -10,25 +10,17 @@ ghost use Rattle.tree.specs.Search.{below_of, place_at, aimed, slot_by, GetsBelo
 
 use lend::{bits, pages};
 use model::{LEVELS, MOST, ROOT};
-use page::{Place, Slot};
+use page::{Place, Unsound};
 
-// A child's page, where it lies inside the pool.
-#[derive(Clone, Copy)]
-pub enum Below {
-    Page(usize),
-    Unsound,
-}
-
-// What a search by key finds: the value, with the number of pages read; or that it is absent, which takes all levels.
-#[derive(Clone, Copy)]
-pub enum Got {
-    Value(u64, usize),
-    Absent,
-    Unsound,
+// What a search by key finds: the value, and the number of pages read.
+#[derive(Clone, Copy, Debug, PartialEq, Eq)]
+pub struct Found {
+    pub value: u64,
+    pub read: usize,
 }
 
 // What is looked for: the gap before a key or after it, the first gap or the last.
-#[derive(Clone, Copy)]
+#[derive(Clone, Copy, Debug, PartialEq, Eq)]
 pub enum Aim {
     Before(u64),
     After(u64),
@@ -36,128 +28,132 @@ pub enum Aim {
     End,
 }
 
-// The page of the child at a place.
-pub fn child(pool: &[u64], p: usize, at: usize) -> Below
+// The page of the child at a place, where it lies inside the pool.
+#[tactic(auto, unfolding(crate::specs::Search::below_of))]
+pub fn child(pool: &[u64], p: usize, at: usize) -> Result<usize, Unsound>
     requires { (first_word today 0 ≤ length pool.now) × Inside p pool.now }
     ensures { result ≡ below_of pool.now p at }
 {
     if MOST < at {
-        return Below::Unsound;
+        return Err(Unsound);
     }
     let c = pages::child_at(pool, p, at) as usize;
     if c < bits::pages_in(pool) {
-        return Below::Page(c);
+        return Ok(c);
     }
-    Below::Unsound
+    Err(Unsound)
 }
 
 // Where a key belongs in page `p`, whose height is to be `h`.
-fn look(pool: &[u64], p: usize, h: usize, key: u64) -> Place
+#[tactic(auto, unfolding(crate::specs::Search::place_at))]
+fn look(pool: &[u64], p: usize, h: usize, key: u64) -> Result<Place, Unsound>
     requires { Inside p pool.now }
     ensures { result ≡ place_at pool.now p h key }
 {
     if pages::height(pool, p) != h as u64 {
-        return Place::Unsound;
+        return Err(Unsound);
     }
     pages::find(pool, p, key)
 }
 
-// The search from page `p`, of height `h`, down; `above` pages were read before.
-pub fn get_below(pool: &[u64], p: usize, h: usize, key: u64, above: usize) -> Got
+// The search from page `p`, of height `h`, down, which takes all levels where the key is absent; `above` pages were
+// read before.
+pub fn get_below(
+    pool: &[u64],
+    p: usize,
+    h: usize,
+    key: u64,
+    above: usize,
+) -> Result<Option<Found>, Unsound>
     requires { (first_word today 0 ≤ length pool.now) × Inside p pool.now × (above + h < most_levels today) }
     ensures { GetsBelow pool.now p h key above result × ReadFew (suc (above + h)) result }
 {
     let mut at = p;
-    let mut left = h;
-    let mut read = above;
-    loop {
-        match look(pool, at, left, key) {
-            Place::Unsound => return Got::Unsound,
-            Place::Here(i) => return Got::Value(pages::entry_at(pool, at, i).value, read + 1),
+    for left in (0..h + 1).rev() {
+        match look(pool, at, left, key)? {
+            Place::Here(i) => {
+                let value = pages::entry_at(pool, at, i).value;
+                let read = above + (h - left) + 1;
+                return Ok(Some(Found { value, read }));
+            }
             Place::Gap(i) => {
                 if left == 0 {
-                    return Got::Absent;
+                    break;
                 }
-                match child(pool, at, i) {
-                    Below::Unsound => return Got::Unsound,
-                    Below::Page(c) => {
-                        at = c;
-                        left -= 1;
-                        read += 1;
-                    }
-                }
+                at = child(pool, at, i)?;
             }
         }
     }
+    Ok(None)
 }
 
 // The value of a key.
-pub fn get(pool: &[u64], key: u64) -> Got
+pub fn get(pool: &[u64], key: u64) -> Result<Option<Found>, Unsound>
     requires { headed pool.now ≡ true }
     ensures { Gets pool.now key result × ReadFew (levels_word pool.now) result }
 {
     let levels = pool[LEVELS] as usize;
     if levels == 0 {
-        return Got::Absent;
+        return Ok(None);
     }
     let root = pool[ROOT] as usize - 1;
     get_below(pool, root, levels - 1, key, 0)
 }
 
 // The slot of the gap before `key` in page `p`, whose height is to be `h`.
-fn before_in(pool: &[u64], p: usize, h: usize, key: u64) -> Slot
+#[tactic(auto, unfolding(crate::specs::Search::slot_by))]
+fn before_in(pool: &[u64], p: usize, h: usize, key: u64) -> Result<usize, Unsound>
     requires { Inside p pool.now }
     ensures { result ≡ slot_by pool.now p h (up_to key false) }
 {
     if pages::height(pool, p) != h as u64 {
-        return Slot::Unsound;
+        return Err(Unsound);
     }
     pages::gap_before(pool, p, key)
 }
 
 // The slot of the gap after `key` in page `p`, whose height is to be `h`.
-fn after_in(pool: &[u64], p: usize, h: usize, key: u64) -> Slot
+#[tactic(auto, unfolding(crate::specs::Search::slot_by))]
+fn after_in(pool: &[u64], p: usize, h: usize, key: u64) -> Result<usize, Unsound>
     requires { Inside p pool.now }
     ensures { result ≡ slot_by pool.now p h (up_to key true) }
 {
     if pages::height(pool, p) != h as u64 {
-        return Slot::Unsound;
+        return Err(Unsound);
     }
     pages::gap_after(pool, p, key)
 }
 
 // The slot of the aim's gap in page `p`, whose height is to be `h`.
-fn slot_in(pool: &[u64], p: usize, h: usize, aim: Aim) -> Slot
+fn slot_in(pool: &[u64], p: usize, h: usize, aim: Aim) -> Result<usize, Unsound>
     requires { Inside p pool.now }
     ensures { result ≡ slot_by pool.now p h (aimed aim) }
 {
     match aim {
         Aim::Before(key) => before_in(pool, p, h, key),
         Aim::After(key) => after_in(pool, p, h, key),
-        Aim::Start => match last_slot(pool, p, h) {
-            Slot::At(_) => Slot::At(0),
-            Slot::Unsound => Slot::Unsound,
-        },
+        Aim::Start => {
+            last_slot(pool, p, h)?;
+            Ok(0)
+        }
         Aim::End => last_slot(pool, p, h),
     }
 }
 
 // The last slot of page `p`, whose height is to be `h`.
-fn last_slot(pool: &[u64], p: usize, h: usize) -> Slot
+#[tactic(auto, unfolding(crate::specs::Search::slot_by, page::specs::Page::gap_in))]
+fn last_slot(pool: &[u64], p: usize, h: usize) -> Result<usize, Unsound>
     requires { Inside p pool.now }
     ensures { result ≡ slot_by pool.now p h (λ x. true) }
 {
     if pages::height(pool, p) != h as u64 {
-        return Slot::Unsound;
+        return Err(Unsound);
     }
     let n = pages::count(pool, p);
-    if n == 0 {
-        return Slot::Unsound;
+    if n == 0 || MOST < n {
+        return Err(Unsound);
     }
-    if MOST < n {
-        return Slot::Unsound;
-    }
-    Slot::At(n)
+    Ok(n)
 }
 
 // The path of the aim's gap from page `p` down. It is recorded in lent slices, one place a level.
@@ -167,38 +163,34 @@ pub fn seek_below(
     aim: Aim,
     pages: &mut [usize],
     slots: &mut [usize],
-) -> bool
+) -> Result<(), Unsound>
     requires { (first_word today 0 ≤ length pool.now) × Inside p pool.now × (1 ≤ length pages.old) × (length pages.old ≡ length slots.old) }
     ensures { SeeksBelow pool.now p aim pages.old slots.old pages.new slots.new result }
 {
     let last = pages.len() - 1;
     let mut at = p;
     let mut i: usize = 0;
+    // One test a level: a `for` over the levels was measured, and seeks took 3 % longer.
     loop {
-        let Slot::At(slot) = slot_in(pool, at, last - i, aim) else {
-            return false;
-        };
+        let slot = slot_in(pool, at, last - i, aim)?;
         pages[i] = at;
         slots[i] = slot;
         if i == last {
-            return true;
+            return Ok(());
         }
-        let Below::Page(c) = child(pool, at, slot) else {
-            return false;
-        };
-        at = c;
+        at = child(pool, at, slot)?;
         i += 1;
     }
 }
 
 // The path of the aim's gap, root first.
-pub fn seek(pool: &[u64], aim: Aim, pages: &mut [usize], slots: &mut [usize]) -> bool
+pub fn seek(pool: &[u64], aim: Aim, pages: &mut [usize], slots: &mut [usize]) -> Result<(), Unsound>
     requires pool_value { headed pool.now ≡ true }
     requires pages_len { (length pages.old ≡ levels_word pool.now) × (length slots.old ≡ levels_word pool.now) }
     ensures { Seeks pool.now aim pages.old slots.old pages.new slots.new result }
 {
     if pages.len() == 0 {
-        return true;
+        return Ok(());
     }
     let root = pool[ROOT] as usize - 1;
     seek_below(pool, root, aim, pages, slots)

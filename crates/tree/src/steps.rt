@@ -8,60 +8,49 @@ ghost use Rattle.tree.specs.Sits.{PathIn};
 ghost use Rattle.tree.specs.Steps.{SpotAfter, SpotBefore, Turns, Overs, Forth, Back};
 
 use crate::search;
-use crate::search::{Aim, Below};
+use crate::search::Aim;
 use lend::pages;
 use model::MOST;
-use page::Entry;
+use page::{Entry, Unsound};
 
-// The page and slot of an entry, or that there is none.
-#[derive(Clone, Copy)]
-pub enum Spot {
-    At(usize, usize),
-    End,
-}
-
-// What a step answers. Callers take it apart with `let .. else` and go on only with the entry that it carries.
-#[derive(Clone, Copy)]
-pub enum Step {
-    Entry(u64, u64),
-    End,
-    Unsound,
+// Where an entry stands.
+#[derive(Clone, Copy, Debug, PartialEq, Eq)]
+pub struct Spot {
+    pub page: usize,
+    pub slot: usize,
 }
 
 // Where the entry after the path's gap stands: the deepest page of the path with an entry at its slot has it.
-pub fn spot_after(pool: &[u64], pages: &[usize], slots: &[usize]) -> Spot
+pub fn spot_after(pool: &[u64], pages: &[usize], slots: &[usize]) -> Option<Spot>
     requires { PathIn pool.now pages.now slots.now }
     ensures { SpotAfter pool.now pages.now slots.now result }
 {
-    let mut i = pages.len();
-    while 0 < i {
-        i -= 1;
+    for i in (0..pages.len()).rev() {
         let p = pages[i];
         let s = slots[i];
         if page::holds(pages::page_at(pool, p), MOST, s, 0) {
-            return Spot::At(p, s);
+            return Some(Spot { page: p, slot: s });
         }
     }
-    Spot::End
+    None
 }
 
 // Where the entry before the path's gap stands: the deepest page of the path with an entry before its slot has it.
-pub fn spot_before(pool: &[u64], pages: &[usize], slots: &[usize]) -> Spot
+pub fn spot_before(pool: &[u64], pages: &[usize], slots: &[usize]) -> Option<Spot>
     requires { PathIn pool.now pages.now slots.now }
     ensures { SpotBefore pool.now pages.now slots.now result }
 {
-    let mut i = pages.len();
-    while 0 < i {
-        i -= 1;
+    for i in (0..pages.len()).rev() {
         let p = pages[i];
         let s = slots[i];
-        if 0 < s {
-            if page::holds(pages::page_at(pool, p), MOST, s - 1, 0) {
-                return Spot::At(p, s - 1);
-            }
+        if 0 < s && page::holds(pages::page_at(pool, p), MOST, s - 1, 0) {
+            return Some(Spot {
+                page: p,
+                slot: s - 1,
+            });
         }
     }
-    Spot::End
+    None
 }
 
 // The rest of the path goes down from child `at` of page `p`, to its start or its end.
@@ -72,16 +61,14 @@ fn turn(
     aim: Aim,
     pages: &mut [usize],
     slots: &mut [usize],
-) -> bool
+) -> Result<(), Unsound>
     requires { (first_word today 0 ≤ length pool.now) × Inside p pool.now × (length pages.old ≡ length slots.old) }
     ensures { Turns pool.now p at aim pages.old slots.old pages.new slots.new result }
 {
     if pages.len() == 0 {
-        return true;
+        return Ok(());
     }
-    let Below::Page(c) = search::child(pool, p, at) else {
-        return false;
-    };
+    let c = search::child(pool, p, at)?;
     search::seek_below(pool, c, aim, pages, slots)
 }
 
@@ -93,76 +80,67 @@ fn over(
     aim: Aim,
     pages: &mut [usize],
     slots: &mut [usize],
-) -> Step
+) -> Result<Option<Entry>, Unsound>
     requires today_in_bounds { (first_word today 0 ≤ length pool.now) × (1 ≤ length pages.old) × (slot ≤ suc s) }
     requires path_in { PathIn pool.now pages.old slots.old }
     ensures { Overs pool.now s slot aim pages.old slots.old pages.new slots.new result }
 {
     let p = pages[0];
     if !page::holds(pages::page_at(pool, p), MOST, s, 0) {
-        return Step::End;
+        return Ok(None);
     }
     let e = pages::entry_at(pool, p, s);
     slots[0] = slot;
-    if turn(pool, p, slot, aim, &mut pages[1..], &mut slots[1..]) {
-        return Step::Entry(e.key, e.value);
-    }
-    Step::Unsound
+    turn(pool, p, slot, aim, &mut pages[1..], &mut slots[1..])?;
+    Ok(Some(e))
 }
 
 // The entry after the path's gap, and the path of the gap after it. From the leaf upward: the first page with an entry
 // at its slot has it.
-pub fn next(pool: &[u64], pages: &mut [usize], slots: &mut [usize]) -> Step
+pub fn next(
+    pool: &[u64],
+    pages: &mut [usize],
+    slots: &mut [usize],
+) -> Result<Option<Entry>, Unsound>
     requires today_in_bounds { first_word today 0 ≤ length pool.now }
     requires path_in { PathIn pool.now pages.old slots.old }
     ensures { Forth pool.now pages.old slots.old pages.new slots.new result }
 {
-    let mut i = pages.len();
-    while 0 < i {
-        i -= 1;
+    for i in (0..pages.len()).rev() {
         let s = slots[i];
-        match over(pool, s, s + 1, Aim::Start, &mut pages[i..], &mut slots[i..]) {
-            Step::End => {}
-            Step::Entry(k, v) => {
-                return Step::Entry(k, v);
-            }
-            Step::Unsound => {
-                return Step::Unsound;
-            }
+        if let Some(e) = over(pool, s, s + 1, Aim::Start, &mut pages[i..], &mut slots[i..])? {
+            return Ok(Some(e));
         }
     }
-    Step::End
+    Ok(None)
 }
 
 // The entry before the path's gap, and the path of the gap before it. From the leaf upward: the first page with an
 // entry before its slot has it.
-pub fn prev(pool: &[u64], pages: &mut [usize], slots: &mut [usize]) -> Step
+pub fn prev(
+    pool: &[u64],
+    pages: &mut [usize],
+    slots: &mut [usize],
+) -> Result<Option<Entry>, Unsound>
     requires today_in_bounds { first_word today 0 ≤ length pool.now }
     requires path_in { PathIn pool.now pages.old slots.old }
     ensures { Back pool.now pages.old slots.old pages.new slots.new result }
 {
-    let mut i = pages.len();
-    while 0 < i {
-        i -= 1;
+    for i in (0..pages.len()).rev() {
         let s = slots[i];
-        if 0 < s {
-            match over(
-                pool,
-                s - 1,
-                s - 1,
-                Aim::End,
-                &mut pages[i..],
-                &mut slots[i..],
-            ) {
-                Step::End => {}
-                Step::Entry(k, v) => {
-                    return Step::Entry(k, v);
-                }
-                Step::Unsound => {
-                    return Step::Unsound;
-                }
-            }
+        if s == 0 {
+            continue;
+        }
+        if let Some(e) = over(
+            pool,
+            s - 1,
+            s - 1,
+            Aim::End,
+            &mut pages[i..],
+            &mut slots[i..],
+        )? {
+            return Ok(Some(e));
         }
     }
-    Step::End
+    Ok(None)
 }

@@ -5,6 +5,7 @@ ghost use Rattle.lend.specs.Pages.{most, Inside};
 ghost use Rattle.tree.specs.Write.{Writes};
 
 use lend::pages;
+use page::Entry;
 
 // Another value for the entry at a page's slot; the answer is the value before.
 pub fn write(pool: &mut [u64], p: usize, slot: usize, value: u64) -> u64
@@ -12,6 +13,6 @@ pub fn write(pool: &mut [u64], p: usize, slot: usize, value: u64) -> u64
     ensures { Writes p slot value pool.old pool.new result }
 {
     let e = pages::entry_at(pool, p, slot);
-    pages::set_entry(pool, p, slot, e.key, value);
+    let _ = pages::set_entry(pool, p, slot, Entry { value, ..e });
     e.value
 }

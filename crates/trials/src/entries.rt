@@ -1,172 +1,185 @@
 // Calls at random on a map or a set, each held against the table, which has 1 at the places of a set's keys: what is
 // right, what is counted, and what the table has after it.
-use crate::calls::Call;
-use crate::tally::{Outcome, both};
-use crate::told::{
-    ABSENT, GONE, GOT, KEY, MISSING, NEW, NO, REFUSED, STRUCK, THERE, Told, WAS, YES, plain, same,
-};
-use crate::{calls, lists, tally};
-use map::refusal::MAP;
+use crate::lists::{self, List, Span};
+use crate::trial::{Kind, Trial};
+use map::refusal::Refusal;
+use map::{Got, Seen};
 use model::LEVELS;
-use table::{key_of, random, value_at};
+use std::alloc::AllocError;
+use table::random::Random;
+use table::{key_of, word_at};
 
-// ---- what is right
+impl Trial<'_> {
+    // ---- insert, replace, remove
 
-// Of a key that is not there: a new one is refused for no reason but that there is no room, and a search has read a
-// page of every level.
-fn absent(letter: u8, told: Told, levels: u64) -> Told {
-    match letter {
-        b'I' | b'a' => {
-            if told.0 == REFUSED {
-                return Told(REFUSED, 7, 0);
+    fn insert(&mut self, place: usize, value: u64) {
+        match map::insert(self.pool, key_of(place), value) {
+            Ok(before) => {
+                let had = self.table.insert(place, value);
+                self.tally.hold(before == had);
+                self.tally.store(had);
             }
-            plain(NEW)
+            Err(why) => self.refuse(place, why),
         }
-        b'G' | b'b' => Told(MISSING, levels, levels),
-        b'K' | b'd' => Told(NO, 0, levels),
-        _ => plain(ABSENT),
     }
-}
 
-// Of a key that is there, with its value; as many pages as were read.
-fn present(call: Call, had: u64, read: u64) -> Told {
-    let letter = call.letter;
-    match letter {
-        b'I' | b'X' => Told(WAS, had, 0),
-        b'R' => Told(STRUCK, had, 0),
-        b'G' => Told(GOT, had, read),
-        b'a' => plain(THERE),
-        b'f' => plain(GONE),
-        b'b' => Told(KEY, call.key, read),
-        _ => Told(YES, 0, read),
-    }
-}
-
-// Whether so many pages are right: 1 to all levels for a key that is there.
-fn is_read(told: Told, levels: u64) -> bool {
-    let word = told.0;
-    match word {
-        GOT | KEY | YES => {
-            if told.2 == 0 {
-                return false;
+    fn set_insert(&mut self, place: usize) {
+        match map::set::insert(self.pool, key_of(place)) {
+            Ok(new) => {
+                let had = self.table.insert(place, 1);
+                self.tally.hold(new == had.is_none());
+                self.tally.store(had);
             }
-            told.2 <= levels
+            Err(why) => self.refuse(place, why),
         }
-        _ => true,
     }
-}
 
-fn is_right(told: Told, call: Call, had: u64, levels: u64) -> bool {
-    if !is_read(told, levels) {
-        return false;
+    // Only a new key is refused, and for no reason but that there is no room.
+    fn refuse(&mut self, place: usize, why: Refusal) {
+        let is_new = self.table.get(place).is_none();
+        self.tally.hold(is_new && why == Refusal::NoRoom);
+        self.tally.full += 1;
     }
-    if had == 0 {
-        return same(told, absent(call.letter, told, levels));
+
+    fn replace(&mut self, place: usize, value: u64) {
+        let before = map::replace(self.pool, key_of(place), value);
+        let had = self.table.get(place);
+        self.tally.hold(before == Ok(had));
+        match had {
+            Some(_) => {
+                self.table.insert(place, value);
+                self.tally.over += 1;
+            }
+            None => self.tally.absent += 1,
+        }
     }
-    same(told, present(call, had, told.2))
-}
 
-// ---- what is counted, and what the table has then
-
-fn figure(told: Told) -> usize {
-    let word = told.0;
-    match word {
-        NEW => tally::NEW,
-        WAS | THERE => tally::OVER,
-        REFUSED => tally::FULL,
-        STRUCK | GONE => tally::STRUCK,
-        ABSENT => tally::ABSENT,
-        _ => tally::READ,
+    fn remove(&mut self, place: usize) {
+        let value = map::remove(self.pool, key_of(place));
+        let had = self.table.remove(place);
+        self.tally.hold(value == Ok(had));
+        self.tally.strike(had);
     }
-}
 
-fn amount(told: Told) -> u64 {
-    let word = told.0;
-    match word {
-        GOT | KEY | MISSING | YES | NO => told.2,
-        _ => 1,
+    fn set_remove(&mut self, place: usize) {
+        let there = map::set::remove(self.pool, key_of(place));
+        let had = self.table.remove(place);
+        self.tally.hold(there == Ok(had.is_some()));
+        self.tally.strike(had);
     }
-}
 
-fn left(told: Told, had: u64, value: u64) -> u64 {
-    let word = told.0;
-    match word {
-        NEW | WAS => value,
-        STRUCK | GONE => 0,
-        _ => had,
+    // ---- get and contains
+
+    // A search reads 1 to all levels for a key that is there, and else a page of every level.
+    fn search(&mut self, is_there: bool, right: bool, read: usize) {
+        let levels = word_at(self.pool, LEVELS) as usize;
+        let pages = if is_there {
+            (1..=levels).contains(&read)
+        } else {
+            read == levels
+        };
+        self.tally.hold(right && pages);
+        self.tally.read += read as u64;
     }
-}
 
-fn make(pool: &mut [u64], table: &[u64], place: usize, call: Call) -> Outcome {
-    let had = value_at(table, place);
-    let levels = value_at(pool, LEVELS);
-    let told = calls::ask(pool, call);
-    Outcome {
-        figure: figure(told),
-        amount: amount(told),
-        right: is_right(told, call, had, levels),
-        place,
-        value: left(told, had, call.value),
-        gap: 0,
+    fn got(&mut self, had: Option<u64>, answer: Result<Got, Refusal>) {
+        match answer {
+            Ok(got) => self.search(had.is_some(), got.value == had, got.read),
+            Err(_) => self.tally.hold(false),
+        }
     }
-}
 
-// ---- at random
+    fn seen(&mut self, is_there: bool, answer: Result<Seen, Refusal>) {
+        match answer {
+            Ok(seen) => self.search(is_there, seen.present == is_there, seen.read),
+            Err(_) => self.tally.hold(false),
+        }
+    }
 
-// Of a map `filed` of 16 calls are insertions, then removals, and the last three a replacement, searches and lists; of
-// a set the last two searches and a list.
-fn drawn(kind: u64, what: u64, filed: u64) -> u8 {
-    if kind == MAP {
+    fn search_map(&mut self, place: usize) {
+        let key = key_of(place);
+        let had = self.table.get(place);
+        let got = map::get(self.pool, key);
+        self.got(had, got);
+        let seen = map::contains(self.pool, key);
+        self.seen(had.is_some(), seen);
+    }
+
+    // A set's get answers the key.
+    fn search_set(&mut self, place: usize) {
+        let key = key_of(place);
+        let had = self.table.get(place).map(|_| key);
+        let got = map::set::get(self.pool, key);
+        self.got(had, got);
+        let seen = map::set::contains(self.pool, key);
+        self.seen(had.is_some(), seen);
+    }
+
+    // ---- lists
+
+    fn listed(&self, list: List, span: Span, random: Random) -> Result<Option<usize>, AllocError> {
+        lists::some(self.alloc, self.pool, list, span, &self.table, random)
+    }
+
+    fn list(&mut self, list: List, span: Span, random: Random) -> Result<(), AllocError> {
+        let listed = self.listed(list, span, random)?;
+        self.tally.list(listed);
+        Ok(())
+    }
+
+    fn list_map(&mut self, random: Random) -> Result<(), AllocError> {
+        let span = Span::drawn(random, self.table.places());
+        let other = random.next().next();
+        self.list(List::Entries, span, other)?;
+        self.list(List::Keys, span, other)?;
+        self.list(List::Values, span, other.next())
+    }
+
+    fn list_set(&mut self, random: Random) -> Result<(), AllocError> {
+        let span = Span::drawn(random, self.table.places());
+        self.list(List::SetKeys, span, random.next().next())
+    }
+
+    // ---- at random
+
+    // `filed` of 16 are insertions, then removals, and the last three a replacement, get and contains, and lists.
+    fn call_map(&mut self, random: Random, filed: u64) -> Result<(), AllocError> {
+        let place = random.below(self.table.places());
+        let what = random.sixteenth();
         if what < filed {
-            return b'I';
+            self.insert(place, random.value());
+            return Ok(());
         }
         match what {
-            13 => return b'X',
-            14 => return b'G',
-            15 => return b'E',
-            _ => return b'R',
+            13 => self.replace(place, random.value()),
+            14 => self.search_map(place),
+            15 => self.list_map(random.next())?,
+            _ => self.remove(place),
         }
+        Ok(())
     }
-    if what < filed {
-        return b'a';
-    }
-    match what {
-        14 => b'b',
-        15 => b'j',
-        _ => b'f',
-    }
-}
 
-fn value(kind: u64, seed: u64) -> u64 {
-    if kind == MAP {
-        return random::value(seed);
+    // Of a set the last two are get and contains, and a list.
+    fn call_set(&mut self, random: Random, filed: u64) -> Result<(), AllocError> {
+        let place = random.below(self.table.places());
+        let what = random.sixteenth();
+        if what < filed {
+            self.set_insert(place);
+            return Ok(());
+        }
+        match what {
+            14 => self.search_set(place),
+            15 => self.list_set(random.next())?,
+            _ => self.set_remove(place),
+        }
+        Ok(())
     }
-    1
-}
 
-// Get, and then contains.
-fn search(pool: &mut [u64], table: &[u64], place: usize, get: Call, contains: u8) -> Outcome {
-    let mut other = get;
-    other.letter = contains;
-    let got = make(pool, table, place, get);
-    both(got, make(pool, table, place, other))
-}
-
-pub fn one(pool: &mut [u64], table: &[u64], kind: u64, seed: u64, filed: u64) -> Outcome {
-    let place = random::below(seed, table.len());
-    let letter = drawn(kind, random::sixteenth(seed), filed);
-    let call = Call {
-        letter,
-        first: 0,
-        second: 0,
-        key: key_of(place),
-        value: value(kind, seed),
-    };
-    match letter {
-        b'E' => lists::of_map(pool, table, random::next(seed)),
-        b'j' => lists::of_set(pool, table, random::next(seed)),
-        b'G' => search(pool, table, place, call, b'K'),
-        b'b' => search(pool, table, place, call, b'd'),
-        _ => make(pool, table, place, call),
+    pub fn call_at_random(&mut self, random: Random, filed: u64) -> Result<(), AllocError> {
+        if self.plan.kind == Kind::Set {
+            self.call_set(random, filed)
+        } else {
+            self.call_map(random, filed)
+        }
     }
 }

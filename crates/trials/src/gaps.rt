@@ -1,239 +1,203 @@
 // Cursor calls at random on a map, each held against the table, as are the peeks after each. The gap is a place of the
 // table: the entries at places below it come before it.
-use crate::calls::Call;
-use crate::tally::{Outcome, seen};
-use crate::told::{DONE, END, ENTRY, READ, Told, WAS, number, plain, same, stepped};
-use crate::{calls, lists, tally};
+use crate::limit::{Limit, lower_gap, upper_gap};
+use crate::lists::{Columns, List};
+use crate::trial::Trial;
+use map::refusal::Refusal;
 use model::LEVELS;
-use table::{after, key_of, lesser, place_before, place_from, random, value_at};
-
-// ---- steps, peeks, writes, remove next
-
-// The place of the entry before the gap; the table's end where there is none.
-fn place_behind(table: &[u64], gap: usize) -> usize {
-    let place = place_before(table, gap);
-    if place == 0 {
-        return table.len();
-    }
-    place - 1
-}
-
-// The place of the entry that a call is about.
-fn place_of(letter: u8, table: &[u64], gap: usize) -> usize {
-    match letter {
-        b'p' | b'P' | b'W' => place_behind(table, gap),
-        _ => place_from(table, gap),
-    }
-}
-
-// What is right: the entry, or of a write the value that it had; the end past the table's last place.
-fn expected(letter: u8, table: &[u64], place: usize) -> Told {
-    if table.len() <= place {
-        return plain(END);
-    }
-    match letter {
-        b'w' | b'W' => Told(WAS, table[place], 0),
-        _ => Told(ENTRY, key_of(place), table[place]),
-    }
-}
-
-fn figure(letter: u8, told: Told) -> usize {
-    if letter == b'r' {
-        if told.0 == ENTRY {
-            return tally::STRUCK;
-        }
-    }
-    tally::OTHER
-}
-
-// What the table has at the place then.
-fn left(letter: u8, had: u64, value: u64) -> u64 {
-    match letter {
-        b'r' => 0,
-        b'w' | b'W' => value,
-        _ => had,
-    }
-}
-
-fn gap_after(letter: u8, place: usize, gap: usize, places: usize) -> usize {
-    match letter {
-        b'n' => lesser(after(place), places),
-        b'p' => lesser(place, gap),
-        _ => gap,
-    }
-}
-
-fn step(pool: &mut [u64], table: &[u64], gap: usize, letter: u8, value: u64) -> Outcome {
-    let place = place_of(letter, table, gap);
-    let call = Call {
-        letter,
-        first: 0,
-        second: 0,
-        key: 0,
-        value,
-    };
-    let told = calls::ask(pool, call);
-    Outcome {
-        figure: figure(letter, told),
-        amount: 1,
-        right: same(told, expected(letter, table, place)),
-        place,
-        value: left(letter, value_at(table, place), value),
-        gap: gap_after(letter, place, gap, table.len()),
-    }
-}
-
-// Whether the peeks show the entries on both sides of the gap.
-pub fn peeks(pool: &[u64], table: &[u64], gap: usize) -> bool {
-    let ahead = expected(b'N', table, place_of(b'N', table, gap));
-    let behind = expected(b'P', table, place_of(b'P', table, gap));
-    if !same(stepped(cursor::peek_next(pool)), ahead) {
-        return false;
-    }
-    same(stepped(cursor::peek_prev(pool)), behind)
-}
-
-// ---- insert after
+use page::Entry;
+use std::alloc::AllocError;
+use std::ops::Bound;
+use table::random::Random;
+use table::{Held, key_of, word_at};
 
 // A place for a new key: seldom that of the entry before the gap, that of the entry after it, or any; else one from
 // `low` on and under `high`, where it fits.
-fn drawn(low: usize, high: usize, places: usize, seed: u64) -> usize {
-    let what = random::sixteenth(seed);
-    let wide = high.wrapping_sub(low);
-    let mut place = low.wrapping_add(random::below(seed, wide));
-    if what == 0 {
-        place = low.wrapping_sub(1);
-    } else if what == 1 {
-        place = high;
-    } else if what == 2 {
-        place = random::below(seed, places);
-    }
+fn drawn(low: usize, high: usize, places: usize, random: Random) -> usize {
+    let place = match random.sixteenth() {
+        0 => low.wrapping_sub(1),
+        1 => high,
+        2 => random.below(places),
+        _ => low.wrapping_add(random.below(high.wrapping_sub(low))),
+    };
     if place < places {
-        return place;
-    }
-    random::below(seed, places)
-}
-
-// What came of a new key that fits, or doesn't: refusals 6 and 7 are right where it doesn't fit, and where there is no
-// room.
-fn filed(told: Told, fits: bool, place: usize, value: u64, gap: usize) -> Outcome {
-    let n = number(told);
-    if n == 6 {
-        return seen(tally::MISPLACED, 1, !fits, gap);
-    }
-    if n == 7 {
-        return seen(tally::FULL, 1, fits, gap);
-    }
-    let right = if told.0 == DONE { fits } else { false };
-    Outcome {
-        figure: tally::NEW,
-        amount: 1,
-        right,
-        place,
-        value,
-        gap,
+        place
+    } else {
+        random.below(places)
     }
 }
 
-// A key fits from the place after that of the entry before the gap on, and under that of the entry after it; the gap
-// stays before it.
-fn insert(pool: &mut [u64], table: &[u64], gap: usize, seed: u64) -> Outcome {
-    let low = place_before(table, gap);
-    let high = place_from(table, gap);
-    let place = drawn(low, high, table.len(), random::next(seed));
-    let fits = if low <= place { place < high } else { false };
-    let call = Call {
-        letter: b'i',
-        first: 0,
-        second: 0,
-        key: key_of(place),
-        value: random::value(seed),
-    };
-    filed(calls::ask(pool, call), fits, place, call.value, low)
+// What a step shows.
+fn shown(held: Option<Held>) -> Option<Entry> {
+    held.map(|held| Entry {
+        key: held.key(),
+        value: held.value,
+    })
 }
 
-// ---- opening
+impl Trial<'_> {
+    fn ahead(&self) -> Option<Held> {
+        self.table.next_from(self.gap)
+    }
 
-// The gap at a bound of a kind.
-fn gap_at(letter: u8, kind: u64, place: usize, places: usize) -> usize {
-    if 1 < kind {
-        if letter == b'l' {
-            return 0;
+    fn behind(&self) -> Option<Held> {
+        self.table.last_before(self.gap)
+    }
+
+    // The gap where no entry is ahead.
+    fn end(&self) -> usize {
+        self.table.places()
+    }
+
+    // Whether the peeks show the entries on both sides of the gap.
+    pub fn look_beside(&mut self) {
+        let next = cursor::peek_next(self.pool);
+        let prev = cursor::peek_prev(self.pool);
+        let right = next == Ok(shown(self.ahead())) && prev == Ok(shown(self.behind()));
+        self.tally.hold(right);
+    }
+
+    // ---- steps, writes, remove next
+
+    fn next(&mut self) {
+        let ahead = self.ahead();
+        let entry = cursor::next(self.pool);
+        self.tally.hold(entry == Ok(shown(ahead)));
+        self.gap = ahead.map_or(self.end(), |held| held.end());
+    }
+
+    fn prev(&mut self) {
+        let behind = self.behind();
+        let entry = cursor::prev(self.pool);
+        self.tally.hold(entry == Ok(shown(behind)));
+        self.gap = behind.map_or(self.gap, |held| held.place);
+    }
+
+    fn write_next(&mut self, value: u64) {
+        let before = cursor::write_next(self.pool, value);
+        let had = self
+            .ahead()
+            .and_then(|held| self.table.insert(held.place, value));
+        self.tally.hold(before == Ok(had));
+    }
+
+    fn write_prev(&mut self, value: u64) {
+        let before = cursor::write_prev(self.pool, value);
+        let had = self
+            .behind()
+            .and_then(|held| self.table.insert(held.place, value));
+        self.tally.hold(before == Ok(had));
+    }
+
+    fn remove_next(&mut self) {
+        let ahead = self.ahead();
+        let entry = cursor::edit::remove_next(self.pool);
+        self.tally.hold(entry == Ok(shown(ahead)));
+        if let Some(held) = ahead {
+            self.table.remove(held.place);
+            self.tally.struck += 1;
         }
-        return places;
     }
-    if letter == b'l' {
-        if kind == 0 {
-            return place;
+
+    // ---- insert after
+
+    // A key fits from the place after that of the entry before the gap on, and under that of the entry after it; the
+    // gap stays before it. Refusals 6 and 7 are right where it doesn't fit, and where there is no room.
+    fn insert_after(&mut self, random: Random) {
+        let low = self.behind().map_or(0, |held| held.end());
+        let high = self.ahead().map_or(self.end(), |held| held.place);
+        let place = drawn(low, high, self.table.places(), random.next());
+        let fits = low <= place && place < high;
+        let value = random.value();
+        match cursor::edit::insert_after(self.pool, key_of(place), value) {
+            Err(Refusal::Misplaced) => {
+                self.tally.misplaced += 1;
+                self.tally.hold(!fits);
+            }
+            Err(Refusal::NoRoom) => {
+                self.tally.full += 1;
+                self.tally.hold(fits);
+            }
+            answer => {
+                self.tally.new += 1;
+                self.tally.hold(fits && answer.is_ok());
+                self.table.insert(place, value);
+            }
         }
-        return after(place);
+        self.gap = low;
     }
-    if kind == 0 {
-        return after(place);
-    }
-    place
-}
 
-// Opening reads a page of every level, and none at the start.
-pub fn open(pool: &mut [u64], letter: u8, kind: u64, place: usize, places: usize) -> Outcome {
-    let mut levels = value_at(pool, LEVELS);
-    let gap = gap_at(letter, kind, place, places);
-    if letter == b'l' {
-        if 1 < kind {
-            levels = 0;
+    // ---- opening and closing
+
+    pub fn close(&mut self) {
+        let _ = cursor::close(self.pool);
+    }
+
+    // Opening reads a page of every level, and none at the start.
+    pub fn open_lower(&mut self, bound: Bound<usize>) {
+        let levels = match bound {
+            Bound::Unbounded => 0,
+            _ => word_at(self.pool, LEVELS),
+        };
+        let read = Limit::at(bound).lower(self.pool);
+        self.tally.hold(read == Ok(levels as usize));
+        self.gap = lower_gap(bound);
+    }
+
+    fn open_upper(&mut self, bound: Bound<usize>) {
+        let levels = word_at(self.pool, LEVELS);
+        let read = Limit::at(bound).upper(self.pool);
+        self.tally.hold(read == Ok(levels as usize));
+        self.gap = upper_gap(bound, self.end());
+    }
+
+    // Closed, and opened at a bound at random.
+    fn reopen(&mut self, random: Random) {
+        self.close();
+        let bound = random.placed_bound(self.table.places());
+        if random.coin() {
+            self.open_upper(bound);
+        } else {
+            self.open_lower(bound);
         }
     }
-    let call = Call {
-        letter,
-        first: kind,
-        second: 0,
-        key: key_of(place),
-        value: 0,
-    };
-    let right = same(calls::ask(pool, call), Told(READ, levels, 0));
-    seen(tally::OTHER, 0, right, gap)
-}
 
-// A bound's kind at random, 0 to 2 and seldom 2.
-fn kind(seed: u64) -> u64 {
-    (seed >> 12) % 16 / 7
-}
+    // ---- playback
 
-// Closed, and opened at a bound at random.
-fn reopen(pool: &mut [u64], places: usize, seed: u64) -> Outcome {
-    cursor::close(pool);
-    let letter: u8 = if (seed >> 16) % 2 == 1 { b'u' } else { b'l' };
-    open(
-        pool,
-        letter,
-        kind(seed),
-        random::below(seed, places),
-        places,
-    )
-}
-
-// ---- at random
-
-// One of the others, by a number from 9 to 12.
-fn letter(what: u64) -> u8 {
-    match what {
-        10 => b'W',
-        11 => b'n',
-        12 => b'p',
-        _ => b'w',
+    // The entries from the gap on, which goes over them, into columns of fewer than 25 words.
+    fn play(&mut self, random: Random) -> Result<(), AllocError> {
+        let keys = random.below(25);
+        let mut wrote = Columns::untouched(self.alloc, keys, random.next().below(25))?;
+        let end = self.end();
+        let entries = self.table.entries(self.alloc, self.gap, end)?;
+        let told = wrote.play(self.pool);
+        let played = wrote.fitting(List::Entries, &entries);
+        let n = played.len();
+        let right = wrote.are_right(self.alloc, List::Entries, played)?;
+        self.tally.hold(right && told == Ok(n));
+        self.tally.listed += n as u64;
+        self.gap = played.last().map_or(self.gap, |held| held.end());
+        Ok(())
     }
-}
 
-// `filed` of 16 are insertions, then removals, and the last seven the others.
-pub fn one(pool: &mut [u64], table: &[u64], gap: usize, seed: u64, filed: u64) -> Outcome {
-    let what = random::sixteenth(seed);
-    if what < filed {
-        return insert(pool, table, gap, seed);
-    }
-    match what {
-        0..=8 => step(pool, table, gap, b'r', 0),
-        13 | 14 => reopen(pool, table.len(), seed),
-        15.. => lists::play(pool, table, gap, seed),
-        _ => step(pool, table, gap, letter(what), random::value(seed)),
+    // ---- at random
+
+    // `filed` of 16 are insertions, then removals, and the last seven the others.
+    pub fn move_at_random(&mut self, random: Random, filed: u64) -> Result<(), AllocError> {
+        let what = random.sixteenth();
+        if what < filed {
+            self.insert_after(random);
+            return Ok(());
+        }
+        match what {
+            0..=8 => self.remove_next(),
+            9 => self.write_next(random.value()),
+            10 => self.write_prev(random.value()),
+            11 => self.next(),
+            12 => self.prev(),
+            13 | 14 => self.reopen(random),
+            _ => self.play(random)?,
+        }
+        Ok(())
     }
 }

@@ -1,237 +1,200 @@
-// Lists held against the table: between two bounds, into slices of lengths of their own, which entries come, how many,
-// and that no word past them is changed.
-ghost use Rattle.std.specs.Prelude.{◌≤◌};
+// Lists, and whether what one wrote is the table's: between two bounds, into columns of lengths of their own, which
+// entries come, how many, and that no word past them is changed.
+use crate::limit::{Limit, lower_gap, upper_gap};
+use map::refusal::Refusal;
+use std::alloc::{AllocError, Global};
+use std::ops::Bound;
+use table::random::Random;
+use table::{Held, PLACES, Table, UNTOUCHED};
 
-use crate::calls::Bounds;
-use crate::tally::{Outcome, both, seen};
-use crate::told::{Told, same};
-use crate::{calls, tally, told};
-use table::{PLACES, UNTOUCHED, after, held, key_of, lesser, place_from, random, word};
+#[derive(Clone, Copy)]
+pub struct Bounds {
+    pub lower: Limit,
+    pub upper: Limit,
+}
 
-// Words of a column.
+// A map's entries, keys or values, or a set's keys.
+#[derive(Clone, Copy, PartialEq, Eq)]
+pub enum List {
+    Entries,
+    Keys,
+    Values,
+    SetKeys,
+}
+
+impl List {
+    // How many entries it wrote.
+    pub fn write(
+        self,
+        pool: &[u64],
+        bounds: Bounds,
+        keys: &mut [u64],
+        values: &mut [u64],
+    ) -> Result<usize, Refusal> {
+        let Bounds { lower, upper } = bounds;
+        let (a, from, b, to) = (lower.kind, lower.key, upper.kind, upper.key);
+        match self {
+            List::Entries => map::list::entries(pool, a, from, b, to, keys, values),
+            List::Keys => map::list::keys(pool, a, from, b, to, keys),
+            List::Values => map::list::values(pool, a, from, b, to, values),
+            List::SetKeys => map::set::list(pool, a, from, b, to, keys),
+        }
+    }
+}
+
+// ---- columns
+
+#[derive(PartialEq, Eq, Drop)]
+pub struct Columns {
+    pub keys: Vec<u64>,
+    pub values: Vec<u64>,
+}
+
+impl Columns {
+    pub fn untouched(alloc: Global, keys: usize, values: usize) -> Result<Columns, AllocError> {
+        Ok(Columns {
+            keys: vec![in alloc; UNTOUCHED; keys]?,
+            values: vec![in alloc; UNTOUCHED; values]?,
+        })
+    }
+
+    // The entries that a list has room for: as many as the shorter column has words, or its one column.
+    pub fn fitting<'a>(&self, list: List, entries: &'a [Held]) -> &'a [Held] {
+        let room = match list {
+            List::Entries => self.keys.len().min(self.values.len()),
+            List::Values => self.values.len(),
+            List::Keys | List::SetKeys => self.keys.len(),
+        };
+        &entries[..room.min(entries.len())]
+    }
+
+    // Plays back into them.
+    pub fn play(&mut self, pool: &mut [u64]) -> Result<usize, Refusal> {
+        cursor::play::play(pool, &mut self.keys, &mut self.values)
+    }
+
+    // As a list is to leave them.
+    fn fill(&mut self, list: List, entries: &[Held]) {
+        if list != List::Values {
+            for (word, held) in self.keys.iter_mut().zip(entries) {
+                *word = held.key();
+            }
+        }
+        if list == List::Entries || list == List::Values {
+            for (word, held) in self.values.iter_mut().zip(entries) {
+                *word = held.value;
+            }
+        }
+    }
+
+    // Whether these entries are in columns that nothing else was written to.
+    pub fn are_right(
+        &self,
+        alloc: Global,
+        list: List,
+        entries: &[Held],
+    ) -> Result<bool, AllocError> {
+        let mut right = Columns::untouched(alloc, self.keys.len(), self.values.len())?;
+        right.fill(list, entries);
+        Ok(*self == right)
+    }
+}
+
+// ---- between bounds
+
+// Two bounds at places of the table.
+#[derive(Clone, Copy)]
+pub struct Span {
+    lower: Bound<usize>,
+    upper: Bound<usize>,
+}
+
+const WHOLE: Span = Span {
+    lower: Bound::Unbounded,
+    upper: Bound::Unbounded,
+};
+
+impl Span {
+    pub fn drawn(random: Random, places: usize) -> Span {
+        Span {
+            lower: random.bound(places),
+            upper: random.next().bound(places),
+        }
+    }
+
+    // How many entries a list wrote, where they are the table's.
+    pub fn list(
+        self,
+        alloc: Global,
+        pool: &[u64],
+        list: List,
+        table: &Table,
+        columns: Columns,
+    ) -> Result<Option<usize>, AllocError> {
+        let mut wrote = columns;
+        let bounds = Bounds {
+            lower: Limit::at(self.lower),
+            upper: Limit::at(self.upper),
+        };
+        let told = list.write(pool, bounds, &mut wrote.keys, &mut wrote.values);
+        let last = upper_gap(self.upper, table.places());
+        let entries = table.entries(alloc, lower_gap(self.lower), last)?;
+        let written = wrote.fitting(list, &entries);
+        let n = written.len();
+        if wrote.are_right(alloc, list, written)? && told == Ok(n) {
+            Ok(Some(n))
+        } else {
+            Ok(None)
+        }
+    }
+}
+
+// The whole list, with room to spare.
+pub fn whole(
+    alloc: Global,
+    pool: &[u64],
+    list: List,
+    table: &Table,
+) -> Result<Option<usize>, AllocError> {
+    WHOLE.list(
+        alloc,
+        pool,
+        list,
+        table,
+        Columns::untouched(alloc, PLACES, PLACES)?,
+    )
+}
+
+// ---- at random
+
+// The most words of a column of a length at random.
 const ROOM: usize = 256;
 
-// Two bounds: their kinds, and the places of their keys.
-#[derive(Clone, Copy)]
-struct Places {
-    lower: u64,
-    from: usize,
-    upper: u64,
-    to: usize,
-}
-
-fn drawn(seed: u64, places: usize) -> Places {
-    let other = random::next(seed);
-    Places {
-        lower: random::kind(seed),
-        from: random::below(seed, places),
-        upper: random::kind(other),
-        to: random::below(other, places),
-    }
-}
-
-fn keys_of(p: Places) -> Bounds {
-    Bounds {
-        lower: p.lower,
-        from: key_of(p.from),
-        upper: p.upper,
-        to: key_of(p.to),
-    }
-}
-
-// The first place that is not before the lower bound.
-fn first(p: Places) -> usize {
-    let kind = p.lower;
-    match kind {
-        0 => p.from,
-        1 => after(p.from),
-        2.. => 0,
-    }
-}
-
-// The first place that is not before the upper bound.
-fn last(p: Places) -> usize {
-    let kind = p.upper;
-    match kind {
-        0 => after(p.to),
-        1 => p.to,
-        2.. => PLACES,
-    }
-}
-
-// The place after the first n entries from a place on, where a column has their keys, or their values, and past them
-// what it had; else one that is none.
-fn column(column: &[u64], keys: bool, n: usize, table: &[u64], first: usize) -> usize {
-    let mut place = first;
-    let mut i: usize = 0;
-    while i < column.len() {
-        let mut want = UNTOUCHED;
-        if i < n {
-            place = place_from(table, place);
-            want = word(keys, table, place);
-            place = after(place);
-        }
-        if column[i] != want {
-            return PLACES + 1;
-        }
-        i += 1;
-    }
-    place
-}
-
-// How many words a list has room for: the shorter column's, or its one column's.
-fn room(letter: u8, keys: usize, values: usize) -> usize {
-    match letter {
-        b'E' => lesser(keys, values),
-        b'V' => values,
-        _ => keys,
-    }
-}
-
-// How many of so many entries are in the column of keys, and in that of values.
-fn in_keys(letter: u8, n: usize) -> usize {
-    match letter {
-        b'V' => 0,
-        _ => n,
-    }
-}
-
-fn in_values(letter: u8, n: usize) -> usize {
-    match letter {
-        b'E' | b'V' => n,
-        _ => 0,
-    }
-}
-
-// So many entries from a place on are in two columns: as many as there are, and as there is room for.
-fn columns(
-    told: Told,
-    letter: u8,
-    most: usize,
-    keys: &[u64],
-    values: &[u64],
-    table: &[u64],
-    from: usize,
-) -> Outcome {
-    let n = lesser(most, room(letter, keys.len(), values.len()));
-    let to = column(keys, true, in_keys(letter, n), table, from);
-    let by_values = column(values, false, in_values(letter, n), table, from);
-    let mut right = same(told, Told(told::LISTED, n as u64, 0));
-    if PLACES < to {
-        right = false;
-    }
-    if PLACES < by_values {
-        right = false;
-    }
-    seen(tally::LISTED, told.1, right, to)
-}
-
-// A list by a letter.
-fn into(
-    pool: &[u64],
-    letter: u8,
-    p: Places,
-    keys: &mut [u64],
-    values: &mut [u64],
-    table: &[u64],
-) -> Outcome {
-    let told = calls::list(pool, letter, keys_of(p), keys, values);
-    columns(
-        told,
-        letter,
-        held(table, first(p), last(p)),
-        keys,
-        values,
-        table,
-        first(p),
-    )
-}
-
-// ---- between bounds at random, into columns of a length at random
-
-// A length at random, of as many words as the table has places or fewer.
-fn length(seed: u64, places: usize) -> usize
-    ensures { result ≤ 256 }
-{
-    lesser(random::below(seed, places), ROOM)
-}
-
-fn some(pool: &[u64], letter: u8, p: Places, seed: u64, table: &[u64]) -> Outcome {
-    let mut keys = [UNTOUCHED; ROOM];
-    let mut values = [UNTOUCHED; ROOM];
-    let a = length(seed, table.len());
-    let mut other = seed;
-    if letter == b'E' {
-        other = random::next(seed);
-    }
-    let b = length(other, table.len());
-    into(pool, letter, p, &mut keys[0..a], &mut values[0..b], table)
-}
-
-pub fn of_map(pool: &[u64], table: &[u64], seed: u64) -> Outcome {
-    let p = drawn(seed, table.len());
-    let other = random::next(random::next(seed));
-    let entries = some(pool, b'E', p, other, table);
-    let keys = some(pool, b'H', p, other, table);
-    let values = some(pool, b'V', p, random::next(other), table);
-    both(both(entries, keys), values)
-}
-
-pub fn of_set(pool: &[u64], table: &[u64], seed: u64) -> Outcome {
-    let other = random::next(random::next(seed));
-    some(pool, b'j', drawn(seed, table.len()), other, table)
-}
-
-// ---- the whole list, with room to spare
-
-pub fn whole(pool: &[u64], letter: u8, table: &[u64]) -> Outcome {
-    let mut keys = [UNTOUCHED; PLACES];
-    let mut values = [UNTOUCHED; PLACES];
-    let p = Places {
-        lower: 2,
-        from: 0,
-        upper: 2,
-        to: 0,
+// Columns of lengths at random, of as many words as the table has places or fewer.
+fn random_columns(
+    alloc: Global,
+    list: List,
+    places: usize,
+    random: Random,
+) -> Result<Columns, AllocError> {
+    let other = if list == List::Entries {
+        random.next()
+    } else {
+        random
     };
-    into(pool, letter, p, &mut keys, &mut values, table)
+    let keys = random.below(places).min(ROOM);
+    Columns::untouched(alloc, keys, other.below(places).min(ROOM))
 }
 
-// ---- playback
-
-// Words of its slices.
-const SOME: usize = 24;
-
-// The entries from the gap on, which goes over them.
-fn play_into(
-    pool: &mut [u64],
-    keys: &mut [u64],
-    values: &mut [u64],
-    table: &[u64],
-    gap: usize,
-) -> Outcome {
-    let told = told::listed(cursor::play::play(pool, keys, values));
-    columns(
-        told,
-        b'E',
-        held(table, gap, table.len()),
-        keys,
-        values,
-        table,
-        gap,
-    )
-}
-
-// A length at random of a slice.
-fn few(seed: u64) -> usize
-    ensures { result ≤ 24 }
-{
-    lesser(random::below(seed, 25), SOME)
-}
-
-pub fn play(pool: &mut [u64], table: &[u64], gap: usize, seed: u64) -> Outcome {
-    let mut keys = [UNTOUCHED; SOME];
-    let mut values = [UNTOUCHED; SOME];
-    let a = few(seed);
-    let b = few(random::next(seed));
-    play_into(pool, &mut keys[0..a], &mut values[0..b], table, gap)
+// A list between bounds, into columns of lengths at random.
+pub fn some(
+    alloc: Global,
+    pool: &[u64],
+    list: List,
+    span: Span,
+    table: &Table,
+    random: Random,
+) -> Result<Option<usize>, AllocError> {
+    let columns = random_columns(alloc, list, table.places(), random)?;
+    span.list(alloc, pool, list, table, columns)
 }

@@ -6,42 +6,60 @@
 pub mod calls;
 pub mod entries;
 pub mod gaps;
+pub mod limit;
 pub mod lists;
 pub mod pages;
 pub mod script;
+pub mod space;
+pub mod step;
 pub mod tally;
 pub mod told;
 pub mod trial;
 
-use crate::trial::{CURSOR, WORDS, trial_in};
-use map::refusal::{MAP, SET};
+use crate::trial::{Kind, Plan};
+use std::alloc::Global;
 use std::io;
 use table::UNTOUCHED;
 
-// Bytes of the longest script.
+// Bytes of the longest script, and words of the longest pool of the trials.
 const MOST: usize = 8192;
 
+const WORDS: usize = 8192;
+
+fn plan(kind: Kind, words: usize, calls: u64, places: usize) -> Plan {
+    Plan {
+        kind,
+        words,
+        calls,
+        places,
+    }
+}
+
+fn plans() -> [Plan; 13] {
+    [
+        plan(Kind::Cursor, 128, 1000, 14),
+        plan(Kind::Cursor, 192, 1500, 30),
+        plan(Kind::Cursor, 2144, 4000, 1000),
+        plan(Kind::Cursor, 8192, 10000, 4096),
+        plan(Kind::Map, 128, 4000, 14),
+        plan(Kind::Map, 160, 4000, 20),
+        plan(Kind::Set, 160, 2000, 20),
+        plan(Kind::Map, 192, 4000, 30),
+        plan(Kind::Map, 2144, 8000, 500),
+        plan(Kind::Set, 2144, 6000, 500),
+        plan(Kind::Map, 2176, 8000, 3000),
+        plan(Kind::Set, 8192, 6000, 4096),
+        plan(Kind::Map, 8192, 8000, 4096),
+    ]
+}
+
 // Each trial makes its pool in the words that the one before it left.
-fn cursors(rt: &impl Print, words: &mut [u64]) -> io::Result<()> {
-    trial_in(rt, words, 128, CURSOR, 1000, 14)?;
-    trial_in(rt, words, 192, CURSOR, 1500, 30)?;
-    trial_in(rt, words, 2144, CURSOR, 4000, 1000)?;
-    trial_in(rt, words, 8192, CURSOR, 10000, 4096)
-}
-
-fn small_pools(rt: &impl Print, words: &mut [u64]) -> io::Result<()> {
-    trial_in(rt, words, 128, MAP, 4000, 14)?;
-    trial_in(rt, words, 160, MAP, 4000, 20)?;
-    trial_in(rt, words, 160, SET, 2000, 20)?;
-    trial_in(rt, words, 192, MAP, 4000, 30)
-}
-
-fn large_pools(rt: &impl Print, words: &mut [u64]) -> io::Result<()> {
-    trial_in(rt, words, 2144, MAP, 8000, 500)?;
-    trial_in(rt, words, 2144, SET, 6000, 500)?;
-    trial_in(rt, words, 2176, MAP, 8000, 3000)?;
-    trial_in(rt, words, 8192, SET, 6000, 4096)?;
-    trial_in(rt, words, 8192, MAP, 8000, 4096)
+fn trials(rt: &(impl Alloc<A = Global> + Print)) -> io::Result<()> {
+    let mut words = [UNTOUCHED; WORDS];
+    for plan in plans() {
+        trial::run(rt, rt.alloc(), &mut words, plan)?;
+    }
+    Ok(())
 }
 
 // The script is on standard input.
@@ -54,8 +72,5 @@ fn scripts(rt: &(impl Input + Print)) -> io::Result<()> {
 
 fn main(rt: HostRuntime) -> io::Result<()> {
     scripts(&rt)?;
-    let mut words = [UNTOUCHED; WORDS];
-    cursors(&rt, &mut words)?;
-    small_pools(&rt, &mut words)?;
-    large_pools(&rt, &mut words)
+    trials(&rt)
 }

@@ -1,44 +1,9 @@
 -- `next` meets its contract: the entry ahead is read, and the gap laid behind it.
-use mathlib.Core.Path.{◌≡◌, refl, sym, ap, ◌∙◌}
-use Rattle.model.specs.Refusal.{refusal}
-use Rattle.model.specs.CursorCalls.{cursor_tests, cursor_next}
-use Rattle.map.specs.Answers.{early_number}
-use Rattle.model.proofs.Keeps.{keeps-next}
-use Rattle.model.proofs.Meets.{meets-unsound}
-use Rattle.map.proofs.Calling.{meets-refused}
-use Rattle.cursor.proofs.Gaps.{passes-cursor}
-use Rattle.cursor.proofs.Nexts.{ahead-unsound}
 use Rattle.cursor.proofs.Forward.{next-over, next-end}
 use Rattle.cursor.proofs.next.Goals as goal
-use Rattle.cursor.proofs.next.Goals.{In-Pass}
 
-pub returns-in-Refused : goal.returns-in-Refused
-returns-in-Refused c =
-    let a = c.args in
-    meets-refused cursor_next a.pool.now c.in-Refused.n (λ w p. (refl, refl)) (sym (ap early_number c.in-Refused.is) ∙ c.ready.ensures)
+pub returns : goal.returns
+returns c = next-over c.in_ok-ready.ensures c.in_ok-spot.ensures c.in-Some.is c.entry_at-e.ensures c.lay.ensures
 
--- past the first tests
-passed : (c : In-Pass) → 0 ≡ refusal (cursor_tests c.args.pool.now)
-passed c = sym (ap early_number c.in-Pass.is) ∙ c.ready.ensures
-
-pub find-requires : goal.find-requires
-find-requires c = (passes-cursor _ (sym (passed c))).fits
-
-pub entry_at-e-requires : goal.entry_at-e-requires
-entry_at-e-requires c = c.find.ensures.within _ _ c.in-At.is
-
-pub lay-requires : goal.lay-requires
-lay-requires c = (passes-cursor _ (sym (passed (goal.at.lay-requires c).In-Pass))).fits
-
-pub returns-in-At : goal.returns-in-At
-returns-in-At c =
-    next-over (passed (goal.at.returns-in-At c).In-Pass) c.find.ensures c.in-At.is
-    c.entry_at-e.ensures c.lay.ensures
-
-pub returns-in-End : goal.returns-in-End
-returns-in-End c = next-end (passed (goal.at.returns-in-End c).In-Pass) c.find.ensures c.in-End.is
-
-pub returns-in-Unsound : goal.returns-in-Unsound
-returns-in-Unsound c =
-    meets-unsound (λ w p. (refl, refl)) keeps-next (passed (goal.at.returns-in-Unsound c).In-Pass)
-    (refl, λ sound. ahead-unsound c.find.ensures sound c.in-Unsound.is)
+pub returns-in_default : goal.returns-in_default
+returns-in_default c = next-end c.in_ok-ready.ensures c.in_ok-spot.ensures c.in_default.is

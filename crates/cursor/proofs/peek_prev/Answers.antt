@@ -1,50 +1,33 @@
 -- `peek_prev` meets its contract: the value that the search finds for the key that the gap names.
-use mathlib.Core.Path.{◌≡◌, refl, sym, ap, ◌∙◌}
+use mathlib.Core.Path.{◌≡◌, sym, ap, ◌∙◌}
+use Rattle.std.specs.Prelude.{Ok}
 use mathlib.Core.Bool.{true}
 use native.Mathlib.Omega.{arith}
-use Rattle.model.specs.Head.{after_word, headed}
-use Rattle.model.specs.Refusal.{refusal}
-use Rattle.model.specs.CursorCalls.{cursor_tests, cursor_peek_prev}
-use Rattle.map.specs.Answers.{early_number}
+use Rattle.model.specs.Head.{headed}
 use Rattle.lend.proofs.Fitting.{head-long}
-use Rattle.map.proofs.Calling.{meets-refused}
 use Rattle.cursor.proofs.Gaps.{passes-cursor}
 use Rattle.cursor.proofs.Backward.{after_one, peek-prev-end, peek-prev-lost, peek-prev-value}
 use Rattle.cursor.proofs.peek_prev.Goals as goal
-use Rattle.cursor.proofs.peek_prev.Goals.{Else-pool-eq0, In-Pass}
+use Rattle.cursor.proofs.peek_prev.Goals.{In_ok-ready}
 
-pub returns-in-Refused : goal.returns-in-Refused
-returns-in-Refused c =
-    let a = c.args in
-    meets-refused cursor_peek_prev a.pool.now c.in-Refused.n (λ w p. (refl, refl)) (sym (ap early_number c.in-Refused.is) ∙ c.ready.ensures)
-
--- past the first tests
-passed : (c : In-Pass) → 0 ≡ refusal (cursor_tests c.args.pool.now)
-passed c = sym (ap early_number c.in-Pass.is) ∙ c.ready.ensures
-
-fits : (c : In-Pass) → headed c.args.pool.now ≡ true
-fits c = (passes-cursor _ (sym (passed c))).fits
+fits : (c : In_ok-ready) → headed c.args.pool.now ≡ true
+fits c = (passes-cursor _ (sym c.in_ok-ready.ensures)).fits
 
 pub bounds-pool-6 : goal.bounds-pool-6
-bounds-pool-6 c = let long = head-long _ (fits (goal.at.bounds-pool-6 c).In-Pass) in omega arith
+bounds-pool-6 c = let long = head-long _ (fits (goal.at.bounds-pool-6 c).In_ok-ready) in omega arith
 
 pub returns-then-pool-eq0 : goal.returns-then-pool-eq0
-returns-then-pool-eq0 c = peek-prev-end (passed (goal.at.returns-then-pool-eq0 c).In-Pass) c.if-pool-eq0.true
-
--- an entry is named
-named : (c : Else-pool-eq0) → headed c.args.pool.now ≡ true → after_word c.args.pool.now ≡ 1
-named c fits = after_one _ fits c.if-pool-eq0.false
+returns-then-pool-eq0 c = peek-prev-end c.in_ok-ready.ensures c.if-pool-eq0.true
 
 pub bounds-pool-7 : goal.bounds-pool-7
-bounds-pool-7 c = let long = head-long _ (fits (goal.at.bounds-pool-7 c).In-Pass) in omega arith
-
-pub get-requires : goal.get-requires
-get-requires c = fits (goal.at.get-requires c).In-Pass
+bounds-pool-7 c = let long = head-long _ (fits (goal.at.bounds-pool-7 c).In_ok-ready) in omega arith
 
 pub returns-in_default : goal.returns-in_default
 returns-in_default c =
-    peek-prev-lost (passed (goal.at.returns-in_default c).In-Pass) (named (goal.at.returns-in_default c).Else-pool-eq0 (fits (goal.at.returns-in_default c).In-Pass)) c.get.ensures.0 c.in_default.not-Value
+    let head = fits (goal.at.returns-in_default c).In_ok-ready in
+    peek-prev-lost c.in_ok-ready.ensures (after_one _ head c.if-pool-eq0.false) c.get.ensures.0 (c.in_ok-found.was ∙ ap Ok c.in_default.is)
 
 pub returns : goal.returns
 returns c =
-    peek-prev-value (passed (goal.at.returns c).In-Pass) (named (goal.at.returns c).Else-pool-eq0 (fits (goal.at.returns c).In-Pass)) c.get.ensures c.in-Value.is
+    let head = fits (goal.at.returns c).In_ok-ready in
+    peek-prev-value c.in_ok-ready.ensures (after_one _ head c.if-pool-eq0.false) c.get.ensures (c.in_ok-found.was ∙ ap Ok c.in-Some.is)

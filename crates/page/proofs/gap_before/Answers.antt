@@ -1,16 +1,19 @@
--- `page::gap_before` meets its contract: each answer by the tests that led there.
+-- `page::gap_before` meets its contract: the count was told or refused; the key words that stand in front are counted.
+use mathlib.Core.Path.{◌≡◌, sym, ◌∙◌}
 use mathlib.Core.Bool.{false}
 use borrow.Author.Rules.{rules}
+use Rattle.std.specs.Prelude.{Ok}
 use Rattle.page.specs.Runs.{up_to}
-use Rattle.page.proofs.Finding.{gap-none, gap-many, gap-scanned}
+use Rattle.page.specs.Page.{count_in}
+use Rattle.page.proofs.Finding.{gap-refused, gap-scanned}
 use Rattle.page.proofs.gap_before.Goals as goal
+use Rattle.page.proofs.gap_before.Goals.{In_ok-n}
 
-pub returns-then-n-eq0 : goal.returns-then-n-eq0
-returns-then-n-eq0 c = gap-none _ _ _ c.if-n-eq0.true
+told : (c : In_ok-n) → count_in c.args.most c.args.page.now ≡ Ok c.in_ok-n.n
+told c = sym c.counted.ensures ∙ c.in_ok-n.was
 
-pub returns-then-most-n : goal.returns-then-most-n
-returns-then-most-n c = gap-many _ _ _ c.if-most-n.true
+pub returns-in_err-n : goal.returns-in_err-n
+returns-in_err-n c = (search rules) ∙ gap-refused _ _ _ (sym c.counted.ensures ∙ c.in_err-n.was)
 
 pub returns : goal.returns
-returns c =
-    gap-scanned c.args.most c.args.page.now (up_to c.args.key false) _ c.requires.0 (search rules) (search rules) c.scan.ensures
+returns c = gap-scanned c.args.most c.args.page.now (up_to c.args.key false) c.requires.0 (told (goal.at.returns c).In_ok-n) c.scan.ensures

@@ -7,8 +7,8 @@ use Rattle.page.proofs.is_full.Goals as goal
 
 pub returns-then-page-most : goal.returns-then-page-most
 unfolding full_at
-returns-then-page-most c = let a = c.args in simp (ne_eqb (count_of a.page.now) a.most c.if-page-most.true)
+returns-then-page-most c = let a = c.args in simp (eq-eqb (count_of a.page.now) a.most c.if-page-most.true) (last-test _)
 
-pub returns : goal.returns
+pub returns-else-page-most : goal.returns-else-page-most
 unfolding full_at
-returns c = let a = c.args in simp (eq-eqb (count_of a.page.now) a.most c.if-page-most.false) (last-test _)
+returns-else-page-most c = let a = c.args in simp (ne_eqb (count_of a.page.now) a.most c.if-page-most.false)

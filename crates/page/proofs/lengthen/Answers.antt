@@ -12,7 +12,7 @@ pub returns : goal.returns
 returns c =
     let n = c.args.n in
     let behind : n + 1 ≡ suc n = add-one n in
-    widened c.args.most n (suc n) n n c.args.key c.args.value (suc n) c.args.child c.requires.0 (omega arith) (omega arith) (omega arith)
+    widened c.args.most n (suc n) n n c.args.entry.key c.args.entry.value (suc n) c.args.child c.requires.0 (omega arith) (omega arith) (omega arith)
     c.put_at.ensures c.put_at-2.ensures
     (elim c.if-page-ne0.branch [
       | then-page-ne0 w ↦ above-done (rw behind at w.put_at-then-page-ne0.ensures) w.page-is

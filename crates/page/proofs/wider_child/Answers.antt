@@ -20,9 +20,9 @@ returns-then-i-at-2 c =
     let page = a.page.now in
     sym (wider-here (suc (count_of page)) (child_in a.most page) a.at a.child 0 (search rules) a.i c.if-i-at-2.true)
 
-pub returns : goal.returns
+pub returns-else-i-at-2 : goal.returns-else-i-at-2
 unfolding children_of
-returns c =
+returns-else-i-at-2 c =
     let a = c.args in
     let page = a.page.now in
-    c.child_at-2.ensures ∙ sym (wider-after (suc (count_of page)) (child_in a.most page) a.at a.child 0 (search rules) a.i (search rules) (search rules))
+    c.child_at-else-i-at-2.ensures ∙ sym (wider-after (suc (count_of page)) (child_in a.most page) a.at a.child 0 (search rules) a.i (search rules) (search rules))

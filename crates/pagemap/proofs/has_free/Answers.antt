@@ -25,11 +25,11 @@ pub loop-w-preserved : goal.loop-w-preserved
 loop-w-preserved c =
     let i = c.loop-w in
     let args = c.args in
-    (omega arith, free-next args.map.now i.w args.pages i.free c.zeros-free.result (omega arith) i.invariant.1 c.zeros-free.ensures)
+    free-next args.map.now i.w args.pages i.free c.zeros-free.result (omega arith) i.invariant c.zeros-free.ensures
 
 pub returns : goal.returns
 returns c =
     let map = c.args.map.now in
     let pages = c.args.pages in
     let all : min (64 * c.loop-w.w) pages ≡ pages = omega arith in
-    ap (leb c.args.k) (omega (arith, rw all at c.loop-w.invariant.1, free-count (bit_at map) pages (bit_at-le map)))
+    ap (leb c.args.k) (omega (arith, rw all at c.loop-w.invariant, free-count (bit_at map) pages (bit_at-le map)))

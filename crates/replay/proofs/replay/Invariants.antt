@@ -1,7 +1,7 @@
 -- `replay` ends.
--- Its measure: how much of the text is left.
-use Rattle.std.proofs.Common.{◌-◌, length}
+-- Its measure: how much of the list is left.
+use Rattle.std.proofs.Common.{length}
 use Rattle.replay.proofs.replay.Given as goal
 
-abbrev pub decreases-loop-at : goal.decreases-loop-at
-decreases-loop-at g l = length l.text - l.at
+abbrev pub decreases-loop-rest : goal.decreases-loop-rest
+decreases-loop-rest g l = length l.rest

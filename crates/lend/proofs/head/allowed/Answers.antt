@@ -13,14 +13,17 @@ pub returns-then-n : goal.returns-then-n
 unfolding allowed
 returns-then-n c = let n = c.args.n in sym (every-fails 0 (length_tests today n) (lt-leb 1 (pages_in today n) (omega arith)))
 
-pub returns-then-pages-gt-MOST_PAGES : goal.returns-then-pages-gt-MOST_PAGES
+pub returns-then-pages-le-MOST_PAGES : goal.returns-then-pages-le-MOST_PAGES
 unfolding allowed
-returns-then-pages-gt-MOST_PAGES c = let n = c.args.n in sym (every-fails 1 (length_tests today n) (lt-leb (pages_in today n) (most_pages today) (omega arith)))
-
-pub returns : goal.returns
-unfolding allowed
-returns c =
+returns-then-pages-le-MOST_PAGES c =
     let n = c.args.n in
     let last = eqb n (first_word today (pages_in today n)) in
     let first = take 2 (length_tests today n) in
     sym (every-then first (last ∷ []) (every-all first (omega (arith, le-leb))) ∙ every_one last)
+
+pub returns-else-pages-le-MOST_PAGES : goal.returns-else-pages-le-MOST_PAGES
+unfolding allowed
+returns-else-pages-le-MOST_PAGES c =
+    let n = c.args.n in
+    let many = lt-leb (pages_in today n) (most_pages today) c.if-pages-le-MOST_PAGES.false in
+    many ∙ sym (every-fails 1 (length_tests today n) many)

@@ -1,47 +1,47 @@
--- `pages::can_pass` meets its contract: each test is one of the four.
-use mathlib.Core.Path.{◌≡◌, sym, ◌∙◌}
-use mathlib.Core.Bool.{true}
-use Rattle.model.specs.Basics.{every}
-use Rattle.page.specs.Page.{holds_at}
-use Rattle.lend.specs.Pages.{most, are_apart, can_pass, page_in}
+-- `pages::can_pass` meets its contract: its tests, in their order.
+use mathlib.Core.Path.{refl, sym, ◌∙◌}
+use Rattle.lend.specs.Pages.{can_pass}
+use Rattle.model.proofs.Cases.{contrary}
 use Rattle.page.proofs.Pages.{last-test}
 use Rattle.lend.proofs.pages.can_pass.Goals as goal
-use Rattle.lend.proofs.pages.can_pass.Goals.{Else-not-apart, Else-not-holds}
+use Rattle.lend.proofs.pages.can_pass.Goals.{then-apart, else-apart, then-holds, else-holds}
 
-pub returns-then-not-apart : goal.returns-then-not-apart
+pub returns-then-holds-2 : goal.returns-then-holds-2
 unfolding can_pass
-returns-then-not-apart c = rw (sym c.apart.ensures ∙ c.if-not-apart.true)
+returns-then-holds-2 c =
+    elim c.if-holds.branch [
+      | then-holds t ↦ elim c.if-apart.branch [
+        | then-apart s ↦
+            rw (
+              sym c.apart.ensures ∙ s.if-apart.true,
+              sym (rw s.page_at.ensures.result_value at s.holds.ensures) ∙ sym s.value-is ∙ t.if-holds.true,
+              sym (rw t.page_at-then-holds.ensures.result_value at t.holds-then-holds.ensures) ∙ sym t.value-is ∙ c.if-holds-2.true,
+            )
+            (rw c.page_at-then-holds-2.ensures.result_value at c.has_room.ensures ∙ last-test _)
+        | else-apart s ↦ contrary t.if-holds.true (s.value-is ∙ s.if-apart.false)
+      ]
+      | else-holds t ↦ contrary c.if-holds-2.true (t.value-is ∙ t.if-holds.false)
+    ]
 
-apart : (c : Else-not-apart) →
-    let a = c.args in
-    every (are_apart a.u a.from a.to) ≡ true
-apart c = sym c.apart.ensures ∙ c.if-not-apart.false
-
-pub returns-then-not-holds : goal.returns-then-not-holds
+pub returns-else-holds-2 : goal.returns-else-holds-2
 unfolding can_pass
-returns-then-not-holds c =
-    rw (apart (goal.at.returns-then-not-holds c).Else-not-apart, sym (rw c.page_at.ensures.result_value at c.holds.ensures) ∙ c.if-not-holds.true)
-
-above : (c : Else-not-holds) →
-    let a = c.args in
-    holds_at most (page_in a.pool.now a.u) a.i 0 ≡ true
-above c = sym (rw c.page_at.ensures.result_value at c.holds.ensures) ∙ c.if-not-holds.false
-
-pub returns-then-not-holds-2 : goal.returns-then-not-holds-2
-unfolding can_pass
-returns-then-not-holds-2 c =
-    rw (
-      apart (goal.at.returns-then-not-holds-2 c).Else-not-apart,
-      above (goal.at.returns-then-not-holds-2 c).Else-not-holds,
-      sym (rw c.page_at-2.ensures.result_value at c.holds-2.ensures) ∙ c.if-not-holds-2.true,
-    )
-
-pub returns : goal.returns
-unfolding can_pass
-returns c =
-    rw (
-      apart (goal.at.returns c).Else-not-apart,
-      above (goal.at.returns c).Else-not-holds,
-      sym (rw c.page_at-2.ensures.result_value at c.holds-2.ensures) ∙ c.if-not-holds-2.false,
-    )
-    (rw c.page_at-3.ensures.result_value at c.has_room.ensures ∙ last-test _)
+returns-else-holds-2 c =
+    c.if-holds-2.false
+    ∙ elim c.if-apart.branch [
+      | then-apart s ↦ elim c.if-holds.branch [
+        | then-holds t ↦
+            rw (
+              sym c.apart.ensures ∙ s.if-apart.true,
+              sym (rw s.page_at.ensures.result_value at s.holds.ensures) ∙ sym s.value-is ∙ t.if-holds.true,
+              sym (rw t.page_at-then-holds.ensures.result_value at t.holds-then-holds.ensures) ∙ sym t.value-is ∙ c.if-holds-2.false,
+            )
+            refl
+        | else-holds t ↦
+            rw (
+              sym c.apart.ensures ∙ s.if-apart.true,
+              sym (rw s.page_at.ensures.result_value at s.holds.ensures) ∙ sym s.value-is ∙ t.if-holds.false,
+            )
+            refl
+      ]
+      | else-apart s ↦ rw (sym c.apart.ensures ∙ s.if-apart.false) refl
+    ]

@@ -1,8 +1,7 @@
 -- `pages::keep` meets its contract: what `page::split` says of the page, said of the pool.
 use mathlib.Core.Path.{refl}
-use Rattle.model.specs.Tree.{entry}
 use Rattle.page.specs.Node.{wider}
-use Rattle.page.specs.Page.{said, full_at}
+use Rattle.page.specs.Page.{plain, said, full_at}
 use Rattle.lend.specs.Pages.{most, node_in}
 use Rattle.lend.proofs.Lent.{lent-splits}
 use Rattle.lend.proofs.pages.keep.Goals as goal
@@ -11,4 +10,4 @@ pub returns : goal.returns
 returns c =
     let a = c.args in
     let m = c.split in
-    lent-splits a.pool.now a.p _ c.requires m.auto.page (λ page. full_at most page a.slot) (λ page. wider a.slot (entry a.key a.value) a.child (said most page)) (wider a.slot (entry a.key a.value) a.child (node_in a.pool.now a.p)) refl refl m.ensures
+    lent-splits a.pool.now a.p _ c.requires m.auto.page (λ page. full_at most page a.slot) (λ page. wider a.slot (plain a.entry) a.child (said most page)) (wider a.slot (plain a.entry) a.child (node_in a.pool.now a.p)) refl refl m.ensures

@@ -1,8 +1,7 @@
 -- `pages::put_last` meets its contract: what `page::put_last` says of the page, said of the pool.
 use mathlib.Core.Path.{refl}
-use Rattle.model.specs.Tree.{entry}
 use Rattle.page.specs.Node.{more}
-use Rattle.page.specs.Page.{said, room_at}
+use Rattle.page.specs.Page.{plain, said, room_at}
 use Rattle.lend.specs.Pages.{most, node_in}
 use Rattle.lend.proofs.Lent.{lent-changes}
 use Rattle.lend.proofs.pages.put_last.Goals as goal
@@ -11,4 +10,4 @@ pub returns : goal.returns
 returns c =
     let a = c.args in
     let m = c.put_last in
-    lent-changes a.pool.now a.p _ c.requires m.auto.page (λ page. room_at most page a.slot a.at) (λ page. more a.slot (entry a.key a.value) a.at a.child (said most page)) (more a.slot (entry a.key a.value) a.at a.child (node_in a.pool.now a.p)) refl refl m.ensures
+    lent-changes a.pool.now a.p _ c.requires m.auto.page (λ page. room_at most page a.slot a.at) (λ page. more a.slot (plain a.entry) a.at a.child (said most page)) (more a.slot (plain a.entry) a.at a.child (node_in a.pool.now a.p)) refl refl m.ensures

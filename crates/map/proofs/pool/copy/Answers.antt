@@ -67,10 +67,10 @@ passed c fits long =
       | else-fits w ↦ let no-head : headed a.destination.now ≡ false = sym c.fits-2.ensures ∙ w.if-fits.false in rw no-head
     ])
 
-pub slice_bounds-zero-end : goal.slice_bounds-zero-end
-slice_bounds-zero-end c =
-    let long = head-long _ (fitting (goal.at.slice_bounds-zero-end c).Else-not-fits) in
-    let copied = ap length c.copy_words.ensures in
+pub slice_bounds-fill-end : goal.slice_bounds-fill-end
+slice_bounds-fill-end c =
+    let long = head-long _ (fitting (goal.at.slice_bounds-fill-end c).Else-not-fits) in
+    let copied = ap length c.copy_from_slice.ensures.after in
     search rules
 
 pub returns : goal.returns
@@ -78,4 +78,4 @@ returns c =
     let a = c.args in
     let fits = fitting (goal.at.returns c).Else-not-fits in
     exact-done (passed (goal.at.returns c).Joined-fits fits (sized (goal.at.returns c).Else-not-allowed))
-    (copied-cursorless a.source.now _ _ (head-long _ fits) c.copy_words.ensures c.zero.ensures)
+    (copied-cursorless a.source.now _ _ (head-long _ fits) c.copy_from_slice.ensures.after (c.fill.ensures.after (λ y e. e)))

@@ -1,25 +1,8 @@
--- `pool::count` meets its contract: it is word 2 wherever the head fits.
-use mathlib.Core.Path.{◌≡◌, refl, sym, ◌∙◌}
-use mathlib.Core.Bool.{true, false}
+-- `pool::count` meets its contract: past the head there is a word for the number of entries.
+use mathlib.Core.Path.{sym, ◌∙◌}
 use native.Mathlib.Omega.{arith}
-use Rattle.model.specs.Head.{headed}
-use Rattle.model.proofs.Making.{exact-stopped, exact-done}
 use Rattle.lend.proofs.Fitting.{head-long}
 use Rattle.map.proofs.pool.count.Goals as goal
-use Rattle.map.proofs.pool.count.Goals.{Else-not-fits}
-
-pub returns-then-not-fits : goal.returns-then-not-fits
-returns-then-not-fits c =
-    let w = c.args.pool.now in
-    let no-head : headed w ≡ false = sym c.fits.ensures ∙ c.if-not-fits.true in
-    exact-stopped 1 (rw no-head) (omega arith) refl
-
--- past the head
-fitting : (c : Else-not-fits) → headed c.args.pool.now ≡ true
-fitting c = sym c.fits.ensures ∙ c.if-not-fits.false
 
 pub bounds-pool-2 : goal.bounds-pool-2
-bounds-pool-2 c = let long = head-long _ (fitting (goal.at.bounds-pool-2 c).Else-not-fits) in omega arith
-
-pub returns : goal.returns
-returns c = exact-done (rw (fitting (goal.at.returns c).Else-not-fits)) refl
+bounds-pool-2 c = let long = head-long _ (sym c.fits.ensures ∙ c.if-not-fits.false) in omega arith

@@ -1,37 +1,26 @@
--- `set::insert` meets its contract: a key that is there stays as it is, another is put in with the value 0. Assumes
--- nothing.
-use mathlib.Core.Path.{◌≡◌, refl, sym, ap, ◌∙◌}
-use Rattle.model.specs.Refusal.{refusal, set_kind}
-use Rattle.model.specs.MapCalls.{change_tests}
+-- `set::insert` meets its contract: a key that is there stays as it is, another is put in with the value 0.
+use mathlib.Core.Path.{◌≡◌, sym, ap, subst}
+use mathlib.Core.Bool.{Bool, true, false, not}
+use Rattle.model.specs.Refusal.{set_kind}
+use Rattle.model.specs.Call.{answered, Meets}
 use Rattle.model.specs.SetCalls.{set_insert}
-use Rattle.map.specs.Answers.{early_number}
 use Rattle.model.proofs.Keeps.{keeps-set-insert}
 use Rattle.model.proofs.Meets.{passes-changing}
-use Rattle.model.proofs.Meets.{meets-unsound}
-use Rattle.map.proofs.Calling.{meets-refused, set-insert-new, set-insert-present, insert-full}
+use Rattle.map.proofs.Answers.{err-same}
+use Rattle.map.proofs.Calling.{set-insert-told, insert-refused}
 use Rattle.map.proofs.set.insert.Goals as goal
-use Rattle.map.proofs.set.insert.Goals.{In-Pass}
-
-pub returns-in-Refused : goal.returns-in-Refused
-returns-in-Refused c =
-    let a = c.args in
-    meets-refused (set_insert a.key) a.pool.now c.in-Refused.n (λ w p. (refl, refl)) (sym (ap early_number c.in-Refused.is) ∙ c.changing.ensures)
-
--- past the first tests
-passed : (c : In-Pass) → 0 ≡ refusal (change_tests set_kind c.args.pool.now)
-passed c = sym (ap early_number c.in-Pass.is) ∙ c.changing.ensures
 
 pub add-requires : goal.add-requires
-add-requires c = let p = passes-changing set_kind _ (sym (passed (goal.at.add-requires c).In-Pass)) in (p.0, p.2)
+add-requires c = let p = passes-changing set_kind _ (sym c.in_ok-changing.ensures) in (p.0, p.2)
 
-pub returns-in-New : goal.returns-in-New
-returns-in-New c = set-insert-new (passed (goal.at.returns-in-New c).In-Pass) c.add.ensures c.in-New.is
+pub returns-in_err-add : goal.returns-in_err-add
+returns-in_err-add c = rw (err-same c.from_residual-in_err-add.ensures) (insert-refused set_kind (keeps-set-insert _) c.in_ok-changing.ensures c.add.ensures _ c.in_err-add.was)
 
-pub returns-in-Here : goal.returns-in-Here
-returns-in-Here c = set-insert-present (passed (goal.at.returns-in-Here c).In-Pass) c.add.ensures c.in-Here.is
+other : (b c : Bool) → c ≡ not b → not c ≡ b
+other true c e = ap not e
+other false c e = ap not e
 
-pub returns-in-Full : goal.returns-in-Full
-returns-in-Full c = insert-full set_kind (keeps-set-insert _) (passed (goal.at.returns-in-Full c).In-Pass) c.add.ensures c.in-Full.is
-
-pub returns-in-Unsound : goal.returns-in-Unsound
-returns-in-Unsound c = meets-unsound (λ w p. (refl, refl)) (keeps-set-insert _) (passed (goal.at.returns-in-Unsound c).In-Pass) (c.add.ensures.unsound c.in-Unsound.is)
+pub returns : goal.returns
+returns c =
+    subst (λ (b : Bool). Meets (set_insert c.args.key) c.args.pool.now c.add.new.pool (answered b)) (other _ _ c.is_none.ensures)
+    (set-insert-told c.in_ok-changing.ensures c.add.ensures _ c.in_ok-add.was)

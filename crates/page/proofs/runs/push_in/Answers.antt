@@ -1,14 +1,13 @@
 -- `page::runs::push_in` meets its contract. The invariant: without the word at `max at i`, which is not wanted any
 -- more, there are the words of before but for the last.
-use mathlib.Core.Path.{◌≡◌, refl, ap, ◌∙◌}
+use mathlib.Core.Path.{◌≡◌, ap, ◌∙◌}
 use mathlib.Core.List.{List}
 use Prim.Native.Nat.{ℕ, ◌-◌, max}
 use native.Mathlib.Omega.{arith}
-use lib.Dec.{ltb}
-use lib.ListN.{length, length-set}
+use lib.ListN.{length}
 use borrow.Author.Rules.{rules}
 use Rattle.model.specs.Basics.{ins, del}
-use Rattle.page.proofs.Running.{up_turn, del-last, set-ins, byte-most}
+use Rattle.page.proofs.Running.{up_turn, del-last, set-ins}
 use Rattle.page.proofs.runs.push_in.Goals as goal
 
 pub loop-i-init : goal.loop-i-init
@@ -16,20 +15,16 @@ loop-i-init c =
     let a = c.args in
     let n = length a.s.now - 1 in
     let last : max a.at n ≡ n = omega arith in
-    (search rules, refl, ap (λ (m : ℕ). del m a.s.now) last ∙ del-last a.s.now n (omega arith))
-
-pub overflow_sub-s : goal.overflow_sub-s
-overflow_sub-s c = omega (arith, byte-most (ltb c.args.at c.loop-i.i))
+    ap (λ (m : ℕ). del m a.s.now) last ∙ del-last a.s.now n (omega arith)
 
 pub loop-i-preserved : goal.loop-i-preserved
 loop-i-preserved c =
     let l = c.loop-i in
-    let a = c.args in
-    (search rules, simp length-set (omega arith), up_turn l.s a.at l.i 0 (search rules) (search rules) ∙ l.invariant.2)
+    up_turn l.s c.args.at (l.i - 1) 0 (omega arith) (omega (arith, l.auto.s)) ∙ l.invariant
 
 pub returns : goal.returns
 returns c =
     let l = c.loop-i in
     let a = c.args in
-    let place : max a.at l.i ≡ a.at = omega arith in
-    set-ins l.s a.at a.v (search rules) ∙ ap (λ (r : List ℕ). ins a.at a.v r) (rw place at l.invariant.2)
+    let place : max a.at (l.i - 1) ≡ a.at = omega arith in
+    set-ins l.s a.at a.v (search rules) ∙ ap (λ (r : List ℕ). ins a.at a.v r) (rw place at l.invariant)

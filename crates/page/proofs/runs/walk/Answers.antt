@@ -9,11 +9,8 @@ use Rattle.page.specs.Runs.{up_to}
 use Rattle.page.proofs.Leading.{leading-here, leading-past, leading_end}
 use Rattle.page.proofs.runs.walk.Goals as goal
 
-pub loop-i-init : goal.loop-i-init
-loop-i-init c = (search rules, search rules)
-
-pub returns-then-key-s : goal.returns-then-key-s
-returns-then-key-s c =
+pub returns-then-key-word : goal.returns-then-key-word
+returns-then-key-word c =
     let a = c.args in
     let i = c.loop-i.i in
     omega (arith, leading-here (up_to a.key true) a.s.now i (search rules) (lt-leb (get_or a.s.now i 0) a.key (search rules)))
@@ -22,7 +19,7 @@ pub loop-i-preserved : goal.loop-i-preserved
 loop-i-preserved c =
     let a = c.args in
     let i = c.loop-i.i in
-    (search rules, omega (arith, leading-past (up_to a.key true) a.s.now i (search rules) (le-leb (get_or a.s.now i 0) a.key (search rules))))
+    omega (arith, leading-past (up_to a.key true) a.s.now i (search rules) (le-leb (get_or a.s.now i 0) a.key (search rules)))
 
 pub returns : goal.returns
 returns c =

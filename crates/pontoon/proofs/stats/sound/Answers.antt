@@ -3,5 +3,5 @@
 use Rattle.lend.proofs.Fitting.{headed-sized}
 use Rattle.pontoon.proofs.stats.sound.Goals as goal
 
-pub taken-taken-requires : goal.taken-taken-requires
-taken-taken-requires g c = (headed-sized _ c.requires).0
+pub taken-requires : goal.taken-requires
+taken-requires g c = (headed-sized _ c.requires).0

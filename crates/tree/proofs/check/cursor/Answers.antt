@@ -1,13 +1,17 @@
 -- `check::cursor` meets its contract: each answer by the words that led there.
-use mathlib.Core.Path.{subst}
+use mathlib.Core.Path.{◌≡◌, ap, ◌∙◌}
+use mathlib.Core.Bool.{false}
 use Prim.Native.Nat.{◌-◌}
 use native.Mathlib.Omega.{arith}
-use Rattle.model.specs.Head.{root_word, levels_word, key_word}
-use Rattle.tree.specs.declared.search.Got.{Got}
-use Rattle.tree.specs.Search.{GetsBelow}
+use Rattle.model.specs.Head.{root_word, levels_word}
+use Rattle.std.specs.Prelude.{Some, Ok}
+use Rattle.tree.specs.declared.search.Found.{Found}
+use Rattle.tree.specs.Check.{CursorIs}
+use Rattle.model.proofs.Cases.{never}
 use Rattle.lend.proofs.Fitting.{head-long}
 use Rattle.tree.proofs.Checking.{root-there, cursor-start, cursor-closed, cursor-empty, cursor-lost, cursor-found}
 use Rattle.tree.proofs.check.cursor.Goals as goal
+use Rattle.tree.proofs.check.cursor.Goals.{After-get_below-found}
 
 pub bounds-pool-6 : goal.bounds-pool-6
 bounds-pool-6 c = let long = head-long c.args.pool.now c.requires in omega arith
@@ -47,26 +51,30 @@ bounds-pool-7-2 c =
     let long = head-long c.args.pool.now c.requires in
     omega arith
 
-pub get_below-requires : goal.get_below-requires
-get_below-requires c =
+pub get_below-found-requires : goal.get_below-found-requires
+get_below-found-requires c =
     let long = head-long c.args.pool.now c.requires in
     let root = root-there c.args.pool.now c.requires c.if-levels-eq0.false in
     let deep = root.deep in
     (omega arith, root.inside, omega arith)
 
-pub returns-in_default : goal.returns-in_default
-returns-in_default c =
+pub returns-in-Ok-Some : goal.returns-in-Ok-Some
+returns-in-Ok-Some c =
     let w = c.args.pool.now in
     let some = c.if-levels-eq0.false in
-    let root = root-there w c.requires some in
-    cursor-lost w c.requires c.if-pool-eq0.false (levels_word w - 1) (root_word w - 1) (omega arith) root.is
-    c.get_below.result c.get_below.ensures.0 c.in_default.not-Value
+    cursor-found w c.requires c.if-pool-eq0.false (levels_word w - 1) (root_word w - 1) (omega arith) (root-there w c.requires some).is
+    c.if-pool-eq0-2.false (c.in-Ok-Some.is ∙ ap Ok (rw c.in-Ok-Some.is at c.in-Ok-Some.field-0-is)) c.get_below-found.ensures.0
 
-pub returns : goal.returns
-returns c =
+-- the search answers no value
+lost : (c : After-get_below-found) → ((f : Found) → c.get_below-found.result ≡ Ok (Some f) → ⊥) → CursorIs c.args.pool.now false
+lost c no_value =
     let w = c.args.pool.now in
     let some = c.if-levels-eq0.false in
-    let root = root-there w c.requires some in
-    cursor-found w c.requires c.if-pool-eq0.false (levels_word w - 1) (root_word w - 1) (omega arith) root.is
-    c.in-Value.field-0 c.in-Value.field-1 c.if-pool-eq0-2.false
-    (subst (λ (r : Got). GetsBelow w (root_word w - 1) (levels_word w - 1) (key_word w) 0 r) c.in-Value.is c.get_below.ensures.0)
+    cursor-lost w c.requires c.if-pool-eq0.false (levels_word w - 1) (root_word w - 1) (omega arith) (root-there w c.requires some).is
+    c.get_below-found.result c.get_below-found.ensures.0 no_value
+
+pub returns-in_default : goal.returns-in_default
+returns-in_default c = lost (goal.at.returns-in_default c).After-get_below-found (λ f e. never (cc))
+
+pub returns-in_default-2 : goal.returns-in_default-2
+returns-in_default-2 c = lost (goal.at.returns-in_default-2 c).After-get_below-found (λ f e. never (cc))

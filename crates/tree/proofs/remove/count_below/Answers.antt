@@ -7,14 +7,14 @@ use Rattle.tree.proofs.remove.count_below.Goals as goal
 
 pub count-requires : goal.count-requires
 count-requires c =
-    omega (arith, (below-inside _ _ _ _ (sym c.child.ensures ∙ c.in-Page.is)).1)
+    omega (arith, (below-inside _ _ _ _ (sym c.child.ensures ∙ c.in-Ok.is)).1)
 
-pub returns-in-Page : goal.returns-in-Page
-returns-in-Page c =
+pub returns-in-Ok : goal.returns-in-Ok
+returns-in-Ok c =
     let a = c.args in
-    c.count.ensures ∙ sym (count-found a.pool.now a.u a.at _ (sym c.child.ensures ∙ c.in-Page.is))
+    c.count.ensures ∙ sym (count-found a.pool.now a.u a.at _ (sym c.child.ensures ∙ c.in-Ok.is))
 
-pub returns-in-Unsound : goal.returns-in-Unsound
-returns-in-Unsound c =
+pub returns-in-Err : goal.returns-in-Err
+returns-in-Err c =
     let a = c.args in
-    sym (count-lost a.pool.now a.u a.at (sym c.child.ensures ∙ c.in-Unsound.is))
+    sym (count-lost a.pool.now a.u a.at (sym c.child.ensures ∙ c.in-Err.is))

@@ -39,7 +39,7 @@ returns-in_default c =
 pub overflow_add-pool : goal.overflow_add-pool
 overflow_add-pool c =
     let a = c.args in
-    let b = (below-inside a.pool.now a.root 0 c.in-Page.c (sym c.child.ensures ∙ c.in-Page.is)).1 in
+    let b = (below-inside a.pool.now a.root 0 c.in-Ok.c (sym c.child.ensures ∙ c.in-Ok.is)).1 in
     search rules
 
 pub bounds-pool-4-2 : goal.bounds-pool-4-2
@@ -48,6 +48,6 @@ bounds-pool-4-2 c = simp length-set (search rules)
 pub returns : goal.returns
 returns c =
     let a = c.args in
-    lowers-done a.pool.now a.root a.levels (c.in-Page.c + 1) (a.levels - 1) (empty (goal.at.returns c).Else-count-ne0) (omega arith) c.free-2.ensures
+    lowers-done a.pool.now a.root a.levels (c.in-Ok.c + 1) (a.levels - 1) (empty (goal.at.returns c).Else-count-ne0) (omega arith) c.free-2.ensures
     (λ one. absurd (c.if-levels-eq1.false one))
-    (λ two d here. (add-one _ ∙ ap suc (one-page c.in-Page.is (c.child.ensures ∙ here)), refl))
+    (λ two d here. (add-one _ ∙ ap suc (one-page c.in-Ok.is (c.child.ensures ∙ here)), refl))

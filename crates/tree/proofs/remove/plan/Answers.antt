@@ -1,6 +1,5 @@
 -- `remove::plan` meets its contract.
-use mathlib.Core.Path.{◌∙◌}
-use borrow.Author.Rules.{rules}
+use Rattle.std.proofs.Common.{◌∙◌, rules}
 use Rattle.model.specs.Page.{count_of}
 use Rattle.lend.specs.Pages.{least, page_in}
 use Rattle.tree.specs.Remove.{count_below}
@@ -12,7 +11,7 @@ returns-then-count_below-ge-LEAST c =
     let a = c.args in
     plan-keep least (count_of (page_in a.pool.now a.u)) (count_below a.pool.now a.u) a.i (search rules)
 
-pub returns : goal.returns
-returns c =
+pub returns-else-count_below-ge-LEAST : goal.returns-else-count_below-ge-LEAST
+returns-else-count_below-ge-LEAST c =
     let a = c.args in
     c.repair.ensures ∙ plan-repair least (count_of (page_in a.pool.now a.u)) (count_below a.pool.now a.u) a.i (search rules)

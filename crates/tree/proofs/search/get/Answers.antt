@@ -3,8 +3,8 @@ use mathlib.Core.Path.{refl}
 use Prim.Native.Nat.{◌-◌}
 use native.Mathlib.Omega.{arith}
 use Rattle.model.specs.Head.{levels_word}
-use Rattle.model.proofs.Cases.{never}
 use Rattle.lend.proofs.Fitting.{head-long, head-levels, head-root}
+use Rattle.tree.proofs.Searching.{few_none}
 use Rattle.tree.proofs.Seeking.{get_none, get-whole}
 use Rattle.tree.proofs.search.get.Goals as goal
 
@@ -12,10 +12,7 @@ pub bounds-pool-4 : goal.bounds-pool-4
 bounds-pool-4 c = omega (arith, head-long c.args.pool.now c.requires)
 
 pub returns-then-levels-eq0 : goal.returns-then-levels-eq0
-returns-then-levels-eq0 c = (get_none _ _ c.if-levels-eq0.true, λ v n e. never (cc))
-
-pub bounds-pool-3 : goal.bounds-pool-3
-bounds-pool-3 c = omega (arith, head-long c.args.pool.now c.requires)
+returns-then-levels-eq0 c = (get_none _ _ c.if-levels-eq0.true, few_none _)
 
 pub overflow_sub-root : goal.overflow_sub-root
 overflow_sub-root c = let some = c.if-levels-eq0.false in (head-root c.args.pool.now c.requires (omega arith)).0
@@ -32,4 +29,4 @@ returns c =
     let a = c.args in
     let some = c.if-levels-eq0.false in
     let got = c.get_below.ensures in
-    (get-whole a.pool.now a.key (levels_word a.pool.now - 1) _ (omega arith) refl got.0, λ v n e. omega (arith, got.1 v n e))
+    (get-whole a.pool.now a.key (levels_word a.pool.now - 1) _ (omega arith) refl got.0, λ f e. omega (arith, got.1 f e))

@@ -11,9 +11,6 @@ returns-then-pages-eq0 c =
     let a = c.args in
     seek-none a.pool.now a.aim a.pages.now a.slots.now (sym c.requires.pages_len.0 ∙ c.if-pages-eq0.true) c.if-pages-eq0.true (c.requires.pages_len.1 ∙ sym c.requires.pages_len.0 ∙ c.if-pages-eq0.true)
 
-pub bounds-pool-3 : goal.bounds-pool-3
-bounds-pool-3 c = omega (arith, head-long c.args.pool.now c.requires.pool_value)
-
 pub overflow_sub-root : goal.overflow_sub-root
 overflow_sub-root c =
     let given = c.requires in

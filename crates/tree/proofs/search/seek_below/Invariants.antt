@@ -1,15 +1,12 @@
 -- `search::seek_below` meets its contract. The loop keeps what is left to do: the path from the page at hand, put
 -- behind what is recorded, is the whole path.
-use mathlib.Core.Path.{◌≡◌}
-use Prim.Native.Nat.{◌-◌, ◌<◌}
+use Prim.Native.Nat.{◌-◌}
 use lib.ListN.{length}
-use Rattle.lend.specs.Pages.{Inside}
 use Rattle.tree.proofs.Seeking.{Rest}
 use Rattle.tree.proofs.search.seek_below.Given as goal
 
 abbrev pub invariant-loop-slot : goal.invariant-loop-slot
-invariant-loop-slot l =
-    Inside l.at l.pool × (l.i < length l.pages) × (length l.pages ≡ length l.initial.pages) × (length l.slots ≡ length l.initial.slots) × Rest l.pool l.p l.aim l.initial.pages l.initial.slots l.at l.i l.pages l.slots
+invariant-loop-slot l = Rest l.pool l.p l.aim l.initial.pages l.initial.slots l.at l.i l.pages l.slots
 
 abbrev pub decreases-loop-slot : goal.decreases-loop-slot
 decreases-loop-slot l = length l.initial.pages - l.i

@@ -6,6 +6,3 @@ use Rattle.tree.proofs.steps.next.Given as goal
 
 abbrev pub invariant-loop-i : goal.invariant-loop-i
 invariant-loop-i l = Along model.next forth l.pool l.initial.pages l.initial.slots l.pages l.slots l.i
-
-abbrev pub decreases-loop-i : goal.decreases-loop-i
-decreases-loop-i l = l.i

@@ -8,6 +8,7 @@ use Rattle.lend.specs.Pages.{most, Inside, page_in}
 use Rattle.tree.specs.Steps.{Overs}
 use Rattle.page.proofs.Pages.{holds-facts}
 use Rattle.tree.proofs.Paths.{behind_back, path-at}
+use Rattle.tree.proofs.Searching.{exits}
 use Rattle.tree.proofs.Turning.{over_by, over-end, over-on}
 use Rattle.tree.proofs.steps.over.Goals as goal
 use Rattle.tree.proofs.steps.over.Goals.{After-turn, Else-not-holds, Start}
@@ -34,14 +35,16 @@ turned : (c : After-turn) → let a = c.args in
     holds_at most (page_in a.pool.now (get_or a.pages.now 0 0)) a.s 0 ≡ true →
     Overs a.pool.now a.s a.slot a.aim a.pages.now a.slots.now (behind_back a.pages.now c.turn.new.pages)
     (behind_back (set a.slots.now 0 a.slot) c.turn.new.slots)
-    (over_by c.turn.result c.entry_at-e.result.key c.entry_at-e.result.value)
+    (over_by c.turn.result c.entry_at-e.result)
 turned c y =
     let a = c.args in
     over-on _ a.s a.slot a.aim a.pages.now a.slots.now c.requires.today_in_bounds.1 c.requires.path_in c.requires.today_in_bounds.2
     y c.entry_at-e.ensures c.turn.ensures
 
-pub returns-then-turn : goal.returns-then-turn
-returns-then-turn c = rw c.if-turn.true at (turned (goal.at.returns-then-turn c).After-turn (here (goal.at.returns-then-turn c).Else-not-holds))
+pub returns-in_err-turn : goal.returns-in_err-turn
+returns-in_err-turn c =
+    rw (exits c.from_residual.ensures.0)
+    (rw c.in_err-turn.was at (turned (goal.at.returns-in_err-turn c).After-turn (here (goal.at.returns-in_err-turn c).Else-not-holds)))
 
 pub returns : goal.returns
-returns c = rw c.if-turn.false at (turned (goal.at.returns c).After-turn (here (goal.at.returns c).Else-not-holds))
+returns c = rw c.in_ok-turn.was at (turned (goal.at.returns c).After-turn (here (goal.at.returns c).Else-not-holds))

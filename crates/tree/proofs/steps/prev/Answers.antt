@@ -1,57 +1,38 @@
 -- `steps::prev` meets its contract. The loop's invariant: what hangs under the pages that are left is at its end.
-use mathlib.Core.Path.{◌≡◌, refl, subst}
+use mathlib.Core.Path.{ap, ◌∙◌}
 use Prim.Native.Nat.{◌-◌}
-use native.Mathlib.Omega.{arith}
 use lib.ListN.{drop}
-use Rattle.model.specs.Entries.{back}
-use Rattle.model.specs.Entries as model
-use Rattle.tree.specs.declared.steps.Step.{Step}
-use Rattle.tree.specs.declared.steps.Step.TheVariants as step
+use Rattle.std.specs.Prelude.{Ok}
 use Rattle.tree.specs.Steps.{Back}
-use Rattle.tree.proofs.Paths.{from_back}
+use Rattle.tree.proofs.Searching.{exits}
 use Rattle.tree.proofs.Stepping.{backward}
-use Rattle.tree.proofs.Turning.{entry_other, unsound-other, along-start, along-end, along-answer, along-prev, along-first}
+use Rattle.tree.proofs.Turning.{some-other, unsound-other, along-start, along-end, along-answer, along-prev, along-first}
 use Rattle.tree.proofs.steps.prev.Goals as goal
 use Rattle.tree.proofs.steps.prev.Goals.{After-over}
 
--- a turn steps at page `loop-i.i - 1` of the path; this is after the step over that page's own entry
-stepped : (c : After-over) (r : Step) → c.over.result ≡ r → let a = c.args in let i = c.loop-i.i - 1 in
-    Back a.pool.now (drop i a.pages.now) (drop i a.slots.now) c.over.new.pages c.over.new.slots r
-stepped c r e =
-    let a = c.args in
-    let i = c.loop-i.i - 1 in
-    let l = c.loop-i-test.true in
-    subst
-    (λ (r : Step). Back a.pool.now (drop i a.pages.now) (drop i a.slots.now) c.over.new.pages c.over.new.slots r)
-    e
-    (along-prev _ a.pages.now a.slots.now c.requires.path_in c.loop-i.invariant (omega arith) refl c.if-s-gt0.true c.over.ensures)
-
--- what is answered there, other than that it is at its end, is the answer for the whole path
-answered : (c : After-over) (r : Step) → (r ≡ step.End → ⊥) → c.over.result ≡ r → let a = c.args in let i = c.loop-i.i - 1 in
-    Back a.pool.now a.pages.now a.slots.now (from_back i c.loop-i.pages c.over.new.pages) (from_back i c.loop-i.slots c.over.new.slots) r
-answered c r n e =
-    let a = c.args in
-    let l = c.loop-i-test.true in
-    along-answer model.prev back backward _ a.pages.now a.slots.now c.requires.path_in c.loop-i.invariant (omega arith) n (stepped c r e)
+-- after the step over the own entry of the page at hand
+stepped : (c : After-over) → let a = c.args in let i = c.loop-i.i - 1 in
+    Back a.pool.now (drop i a.pages.now) (drop i a.slots.now) c.over.new.pages c.over.new.slots c.over.result
+stepped c = along-prev c.requires.path_in c.loop-i.invariant c.loop-i-test.true c.if-s-eq0.false c.over.ensures
 
 pub loop-i-init : goal.loop-i-init
-loop-i-init c = let a = c.args in along-start model.prev back backward a.pool.now a.pages.now a.slots.now
+loop-i-init c = along-start backward _ _ _
 
-pub loop-i-preserved-in-End : goal.loop-i-preserved-in-End
-loop-i-preserved-in-End c =
-    let a = c.args in
-    let l = c.loop-i-test.true in
-    along-end model.prev back backward _ a.pages.now a.slots.now c.requires.path_in c.loop-i.invariant (omega arith)
-    (stepped (goal.at.loop-i-preserved-in-End c).After-over step.End c.in-End.is)
+pub loop-i-preserved-then-s-eq0 : goal.loop-i-preserved-then-s-eq0
+loop-i-preserved-then-s-eq0 c = along-first c.requires.path_in c.loop-i.invariant c.loop-i-test.true c.if-s-eq0.true
 
-pub returns-in-Entry : goal.returns-in-Entry
-returns-in-Entry c =
-    answered (goal.at.returns-in-Entry c).After-over (step.Entry c.in-Entry.k c.in-Entry.v) (entry_other c.in-Entry.k c.in-Entry.v) c.in-Entry.is
+pub returns-in_err-e : goal.returns-in_err-e
+returns-in_err-e c =
+    rw (exits c.from_residual.ensures.0)
+    (along-answer backward c.requires.path_in c.loop-i.invariant c.loop-i-test.true c.in_err-e.was unsound-other
+    (stepped (goal.at.returns-in_err-e c).After-over))
 
-pub returns-in-Unsound : goal.returns-in-Unsound
-returns-in-Unsound c = answered (goal.at.returns-in-Unsound c).After-over step.Unsound unsound-other c.in-Unsound.is
+pub returns-in-Some : goal.returns-in-Some
+returns-in-Some c =
+    along-answer backward c.requires.path_in c.loop-i.invariant c.loop-i-test.true (c.in_ok-e.was ∙ ap Ok c.in-Some.is) (some-other _)
+    (stepped (goal.at.returns-in-Some c).After-over)
 
 pub loop-i-preserved : goal.loop-i-preserved
 loop-i-preserved c =
-    let l = c.if-s-gt0.false in
-    along-first _ c.args.pages.now c.args.slots.now c.requires.path_in c.loop-i.invariant (omega arith) (omega arith)
+    along-end backward c.requires.path_in c.loop-i.invariant c.loop-i-test.true (c.in_ok-e.was ∙ ap Ok c.in_default.is)
+    (stepped (goal.at.loop-i-preserved c).After-over)

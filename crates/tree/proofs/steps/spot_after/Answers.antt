@@ -1,60 +1,18 @@
 -- `steps::spot_after` meets its contract. The loop's invariant: the pages that are left give what the whole path gives.
-use mathlib.Core.Path.{◌≡◌, sym, ◌∙◌}
-use Prim.Native.Nat.{ℕ, suc, ◌-◌, ◌<◌}
+use mathlib.Core.Path.{sym, ◌∙◌}
 use native.Mathlib.Omega.{arith}
-use lib.ListN.{length, get_or}
-use Rattle.tree.specs.declared.steps.Spot.TheVariants as spot
-use Rattle.tree.specs.Steps.{here_after}
-use Rattle.tree.proofs.Paths.{path-at}
-use Rattle.tree.proofs.Spots.{Left, left-all, left_less, after-lost, after_none, after-here}
+use Rattle.tree.proofs.Spots.{after-here, after-lost, after_none}
 use Rattle.tree.proofs.steps.spot_after.Goals as goal
-use Rattle.tree.proofs.steps.spot_after.Goals.{In-loop-i}
-
--- ---- a turn of the loop, at page `at` of the path
-
-abbrev at : In-loop-i → ℕ
-at c = c.loop-i.i - 1
-
-under : (c : In-loop-i) → c.loop-i.i ≡ suc (at c)
-under c = let l = c.loop-i-test.true in omega arith
-
-page : (c : In-loop-i) → at c < length c.args.pages.now
-page c = omega (arith, under c, c.loop-i.invariant.within)
-
--- the page at hand has no such entry: it is left out
-lost : (c : In-loop-i) → let a = c.args in
-    here_after a.pool.now (get_or a.pages.now (at c) 0) (get_or a.slots.now (at c) 0) ≡ spot.End → Left (here_after a.pool.now) a.pages.now a.slots.now (at c)
-lost c n =
-    left_less (here_after c.args.pool.now) c.args.pages.now c.args.slots.now c.loop-i.i (at c) c.requires.even c.loop-i.invariant (under c) n
-
--- ---- the needs
-
-pub loop-i-init : goal.loop-i-init
-loop-i-init c = left-all (here_after c.args.pool.now) c.args.pages.now c.args.slots.now c.requires.even
-
-pub bounds-pages-i : goal.bounds-pages-i
-bounds-pages-i c = page (goal.at.bounds-pages-i c).In-loop-i
-
-pub bounds-slots-i : goal.bounds-slots-i
-bounds-slots-i c = omega (arith, page (goal.at.bounds-slots-i c).In-loop-i, c.requires.even)
-
-pub page_at-requires : goal.page_at-requires
-page_at-requires c = (path-at c.args.pool.now c.args.pages.now c.args.slots.now c.requires (at (goal.at.page_at-requires c).In-loop-i) (page (goal.at.page_at-requires c).In-loop-i)).0
 
 pub returns-then-holds : goal.returns-then-holds
 returns-then-holds c =
-    after-here c.args.pool.now c.args.pages.now c.args.slots.now c.requires c.loop-i.i (at (goal.at.returns-then-holds c).In-loop-i) (under (goal.at.returns-then-holds c).In-loop-i) c.loop-i.invariant
-    (rw c.page_at.ensures.result_value at (sym c.holds.ensures ∙ c.if-holds.true))
-
-pub loop-i-smaller : goal.loop-i-smaller
-loop-i-smaller c = omega (arith, under (goal.at.loop-i-smaller c).In-loop-i)
+    let some = c.loop-i-test.true in
+    after-here c.requires c.loop-i.invariant (omega arith) (rw c.page_at.ensures.result_value at (sym c.holds.ensures ∙ c.if-holds.true))
 
 pub loop-i-preserved : goal.loop-i-preserved
 loop-i-preserved c =
-    lost (goal.at.loop-i-preserved c).In-loop-i
-    (after-lost _ _ _ (rw c.page_at.ensures.result_value at (sym c.holds.ensures ∙ c.if-holds.false)))
+    let some = c.loop-i-test.true in
+    after-lost c.requires c.loop-i.invariant (omega arith) (rw c.page_at.ensures.result_value at (sym c.holds.ensures ∙ c.if-holds.false))
 
 pub returns : goal.returns
-returns c =
-    let l = c.loop-i-test.false in
-    after_none c.args.pool.now c.args.pages.now c.args.slots.now c.requires c.loop-i.i c.loop-i.invariant (omega arith)
+returns c = let none = c.loop-i-test.false in after_none c.requires c.loop-i.invariant (omega arith)

@@ -5,6 +5,3 @@ use Rattle.tree.proofs.steps.spot_after.Given as goal
 
 abbrev pub invariant-loop-i : goal.invariant-loop-i
 invariant-loop-i l = Left (here_after l.pool) l.pages l.slots l.i
-
-abbrev pub decreases-loop-i : goal.decreases-loop-i
-decreases-loop-i l = l.i

@@ -6,6 +6,3 @@ use Rattle.tree.proofs.steps.spot_before.Given as goal
 
 abbrev pub invariant-loop-i : goal.invariant-loop-i
 invariant-loop-i l = Left (here_before l.pool) l.pages l.slots l.i
-
-abbrev pub decreases-loop-i : goal.decreases-loop-i
-decreases-loop-i l = l.i

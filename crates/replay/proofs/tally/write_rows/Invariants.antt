@@ -1,7 +1,0 @@
--- `write_rows` ends.
--- Its measure: how many figures are left.
-use Rattle.std.proofs.Common.{◌-◌}
-use Rattle.replay.proofs.tally.write_rows.Given as goal
-
-abbrev pub decreases-loop-r : goal.decreases-loop-r
-decreases-loop-r g l = 100 - l.r
