@@ -15,7 +15,7 @@ count '2 a word or 0 past the end' 'fn (value_at|byte|word|byte_at|word_at|put|p
 count '2 an answer taken apart' '(said|answer): [A-Za-z:]+(,|\))' "$all"
 count '2 words to the front' 'fn put_(one|two|three)\(' "$all"
 count '2 figures to a number' 'fn (longer|number|number_of|figure)\(' "$programs"
-count '2 a path lent' 'let mut pages = \[0usize; MOST_LEVELS\]' "$all"
+count '2 an array for a path' 'let mut pages = \[0usize; MOST_LEVELS\]|\[Spot::default\(\); MOST_LEVELS\]' "$all"
 # 3. loops that count by hand
 count '3 loops' '^ *(while|loop) ' "$all"
 # 4. equality, order, copying, conversion and printing by hand
@@ -30,7 +30,7 @@ count '5 room for head and map' 'first_word today 0 ≤ length pool' "$all"
 count '5 a page inside the pool' 'Inside [a-z]+ pool' "$all"
 count '5 a path inside the pool' 'PathIn pool' "$all"
 count '5 a page long enough' 'Long most page' "$all"
-count '5 a place for each level' 'length pages\.old ≡ levels_word' "$all"
+count '5 a place for each level' 'length pa(ges|th)\.(old|now) ≡ levels_word' "$all"
 count '5 pages, slots' 'slots: &' "$all"
 count '5 key, value' 'key: u64, *value: u64|^ *value: u64,$' "$all"
 count '5 lower, from, upper, to' 'from: (u64|usize)' "$all"

@@ -3,8 +3,6 @@
 -- answers there meets its promise.
 -- Assumes nothing.
 use mathlib.Core.Path.{◌≡◌, refl, sym, ap, ap₂, subst, ◌∙◌}
-use mathlib.Core.Bool.{true}
-use mathlib.Core.Logic.{◌≢◌}
 use mathlib.Core.Option.{Option, none, some}
 use mathlib.Core.List.{List}
 use Prim.Native.Nat.{ℕ}
@@ -13,7 +11,7 @@ use lib.ListN.{length, get_or}
 use Rattle.std.specs.Prelude as std
 use Rattle.std.specs.Prelude.{Ok, Some, None, Result}
 use Rattle.page.specs.declared.Unsound.{Unsound}
-use Rattle.model.specs.Head.{levels_word, after_word, key_word, headed}
+use Rattle.model.specs.Head.{levels_word, after_word}
 use Rattle.model.specs.Tree.{entry, no_entry, held}
 use Rattle.model.specs.Page.{entry_in}
 use Rattle.model.specs.Pool.{held_by, pool_of}
@@ -31,10 +29,9 @@ use Rattle.tree.specs.Search.{Gets, ReadFew, got_by}
 use Rattle.tree.specs.Steps.{SpotBefore, spot}
 use Rattle.tree.specs.Write.{Writes}
 use Rattle.map.specs.Entry.{Finds, SeeksKey}
-use Rattle.cursor.specs.Gap.{rest_words}
+use Rattle.cursor.specs.Gap.{named_key, rest_words}
 use Rattle.model.proofs.Cases.{contrary, never}
 use Rattle.model.proofs.Basics.{next-some}
-use Rattle.model.proofs.Head.{head-facts}
 use Rattle.model.proofs.Entries.{lookup-at}
 use Rattle.model.proofs.Right.{sound-right}
 use Rattle.model.proofs.Written.{sound-written}
@@ -43,13 +40,7 @@ use Rattle.model.proofs.Meets.{meets-answered, meets-unsound, meets-read}
 use Rattle.tree.proofs.Sitting.{sound-sits}
 use Rattle.map.proofs.Placing.{spot-value}
 use Rattle.map.proofs.Calling.{overwritten, gets-value}
-use Rattle.cursor.proofs.Gaps.{Ready, passes-cursor, Named, gap-start, gap-named, gap_same, rest-long, rest-written}
-
--- ---- words
-
--- word 6 of a head that fits
-pub after_one : (w : List ℕ) → headed w ≡ true → after_word w ≢ 0 → after_word w ≡ 1
-after_one w fits nonzero = omega (arith, (head-facts w fits).after)
+use Rattle.cursor.proofs.Gaps.{Ready, passes-cursor, named-none, named-some, Named, gap-start, gap-named, gap_same, rest-long, rest-written}
 
 -- ---- the entry before the gap
 
@@ -57,11 +48,11 @@ module _ (w : List ℕ) (s : Sound w) where
   prev-none : after_word w ≡ 0 → prev_of (pool_of w) ≡ none
   prev-none z = rw (gap-start w s z)
 
-  module _ {g : ℕ} (n : Named w g) where
-    named_value : view w (key_word w) ≡ some (get_or (held_by (pool_of w)) g no_entry).value
-    named_value = lookup-at (key_word w) (held_by (pool_of w)) (sound-right w s).rising ∙ rw (n.member, n.before)
+  module _ {k g : ℕ} (n : Named w k g) where
+    named_value : view w k ≡ some (get_or (held_by (pool_of w)) g no_entry).value
+    named_value = lookup-at k (held_by (pool_of w)) (sound-right w s).rising ∙ rw (n.member, n.before)
 
-    prev-some : {x : ℕ} → view w (key_word w) ≡ some x → prev_of (pool_of w) ≡ some (entry (key_word w) x)
+    prev-some : {x : ℕ} → view w k ≡ some x → prev_of (pool_of w) ≡ some (entry k x)
     prev-some {x} v =
         let value : (get_or (held_by (pool_of w)) g no_entry).value ≡ x = cc named_value in
         rw n.at (next-some (held_by (pool_of w)) g no_entry n.there ∙ ap some (ap₂ entry n.key value))
@@ -78,34 +69,34 @@ module _ {w : List ℕ} (pass : 0 ≡ refusal (cursor_tests w)) where
   ready = passes-cursor w (sym pass)
 
   -- with the gap at the start
-  module _ (start : after_word w ≡ 0) where
+  module _ (start : None ≡ named_key w) where
     pub prev-end : Meets cursor_prev w w (answered none)
     prev-end =
         meets-answered (λ w p. (refl, refl)) keeps-prev pass refl
         (λ s.
-        let empty = prev-none w s start in
+        let empty = prev-none w s (named-none w start) in
         record { passes = refl; answers = sym empty; holds = rw (empty, gap_same w ready.opened) (sound-written w s); still = λ z. refl })
 
     pub peek-prev-end : Meets cursor_peek_prev w w (answered none)
-    peek-prev-end = meets-read cursor_tests prev_of (λ w p. (refl, refl)) pass (λ s. sym (prev-none w s start))
+    peek-prev-end = meets-read cursor_tests prev_of (λ w p. (refl, refl)) pass (λ s. sym (prev-none w s (named-none w start)))
 
     pub write-prev-end : (x : ℕ) → Meets (cursor_write_prev x) w w (answered none)
     write-prev-end x =
         meets-answered (λ w p. (refl, refl)) (keeps-write-prev x) pass refl
         (λ s.
-        let empty = prev-none w s start in
+        let empty = prev-none w s (named-none w start) in
         record { passes = refl; answers = rw empty; holds = rw empty (sound-written w s); still = λ z. refl })
 
   -- with the gap after an entry
-  module _ (after : after_word w ≡ 1) where
-    named : (s : Sound w) → (g : ℕ) × Named w g
-    named s = gap-named w s ready.opened after
+  module _ {k : ℕ} (after : Some k ≡ named_key w) where
+    named : Sound w → (g : ℕ) × Named w k g
+    named s = let (one, key) = named-some w ready.fits after in rw key (gap-named w s ready.opened one)
 
     -- a search for its key finds it
-    found-there : Finds w (key_word w) (Ok None) → Sound w → ⊥
+    found-there : Finds w k (Ok None) → Sound w → ⊥
     found-there finds s = contrary (named s).1.member (finds.absent refl s)
 
-    module _ {at : std.Option Spot} (finds : Finds w (key_word w) (Ok at)) (past : at ≡ None) where
+    module _ {at : std.Option Spot} (finds : Finds w k (Ok at)) (past : at ≡ None) where
       lost : Sound w → ⊥
       lost = found-there (rw past at finds)
 
@@ -115,13 +106,13 @@ module _ {w : List ℕ} (pass : 0 ≡ refusal (cursor_tests w)) where
       pub write-prev-lost : (x : ℕ) → Meets (cursor_write_prev x) w w (refused 9)
       write-prev-lost x = meets-unsound (λ w p. (refl, refl)) (keeps-write-prev x) pass (refl, lost)
 
-    pub peek-prev-lost : {r : Result (std.Option search.Found) Unsound} → Gets w (key_word w) r → r ≡ Ok None → Meets cursor_peek_prev w w (refused 9)
+    pub peek-prev-lost : {r : Result (std.Option search.Found) Unsound} → Gets w k r → r ≡ Ok None → Meets cursor_peek_prev w w (refused 9)
     peek-prev-lost gets lost =
         meets-unsound (λ w p. (refl, refl)) (keeps-reads cursor_tests prev_of) pass (refl, λ s. got-there _ _ (named_value w s (named s).1) (sym lost ∙ gets s))
 
     pub prev-back : {ps ss ps' ss' v : List ℕ} {at : std.Option Spot} {p i key x : ℕ} {behind : std.Option Spot}
-        → SeeksKey w (key_word w) ps ss ps' ss' (Ok at) → at ≡ Some (spot p i) → entry key x ≡ entry_in most (page_in w p) i → SpotBefore w ps' ss' behind → v ≡ rest_words behind w
-        → Meets cursor_prev w v (answered (some (entry (key_word w) x)))
+        → SeeksKey w k ps ss ps' ss' (Ok at) → at ≡ Some (spot p i) → entry key x ≡ entry_in most (page_in w p) i → SpotBefore w ps' ss' behind → v ≡ rest_words behind w
+        → Meets cursor_prev w v (answered (some (entry k x)))
     unfolding held
     prev-back {ps' = ps'} {ss' = ss'} {p = p} {i = i} {key = key} {x = x} {behind = behind} seeks e read before rested =
         meets-answered (λ w p. (refl, refl)) keeps-prev pass (ap length rested ∙ rest-long behind w)
@@ -130,7 +121,7 @@ module _ {w : List ℕ} (pass : 0 ≡ refusal (cursor_tests w)) where
         let g = (named s).0 in
         let n = (named s).1 in
         let stands = (seeks.finds.here p i (ap Ok e)).there s in
-        let is = prev-some w s n (spot-value w (key_word w) s p i key x stands.1 read stands.0) in
+        let is = prev-some w s n (spot-value w k s p i key x stands.1 read stands.0) in
         let path = subst (λ (j : ℕ). PathOf P.whole.levels P.whole.tree j ps' ss') n.before (seeks.path s) in
         let found = before.exact 1 P.whole.levels P.whole.tree g (sound-sits w s) (omega (arith, n.there)) path in
         record {
@@ -140,18 +131,18 @@ module _ {w : List ℕ} (pass : 0 ≡ refusal (cursor_tests w)) where
           still = λ z. contrary z (rw is);
         })
 
-    pub peek-prev-value : {r : Result (std.Option search.Found) Unsound} {f : search.Found} → Gets w (key_word w) r × ReadFew (levels_word w) r → r ≡ Ok (Some f)
-        → Meets cursor_peek_prev w w (answered (some (entry (key_word w) f.value)))
-    peek-prev-value gets e = meets-read cursor_tests prev_of (λ w p. (refl, refl)) pass (λ s. sym (prev-some w s (named s).1 (gets-value (key_word w) w gets e s).0))
+    pub peek-prev-value : {r : Result (std.Option search.Found) Unsound} {f : search.Found} → Gets w k r × ReadFew (levels_word w) r → r ≡ Ok (Some f)
+        → Meets cursor_peek_prev w w (answered (some (entry k f.value)))
+    peek-prev-value gets e = meets-read cursor_tests prev_of (λ w p. (refl, refl)) pass (λ s. sym (prev-some w s (named s).1 (gets-value k w gets e s).0))
 
-    pub write-prev-over : {at : std.Option Spot} {p i x old : ℕ} {v : List ℕ} → Finds w (key_word w) (Ok at) → at ≡ Some (spot p i) → Writes p i x w v old
+    pub write-prev-over : {at : std.Option Spot} {p i x old : ℕ} {v : List ℕ} → Finds w k (Ok at) → at ≡ Some (spot p i) → Writes p i x w v old
         → Meets (cursor_write_prev x) w v (answered (some old))
     unfolding file
     write-prev-over {p = p} {i = i} {x = x} finds e writes =
         meets-answered (λ w p. (refl, refl)) (keeps-write-prev x) pass writes.only.long
         (λ s.
         let n = (named s).1 in
-        let o = overwritten w (key_word w) (finds.here p i (ap Ok e)) writes s in
+        let o = overwritten w k (finds.here p i (ap Ok e)) writes s in
         let is = prev-some w s n o.1 in
         record {
           passes = refl;

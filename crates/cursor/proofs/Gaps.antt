@@ -25,7 +25,7 @@ use Rattle.lend.specs.Pages.{least, most, page_in}
 use Rattle.tree.specs.declared.steps.Spot.{Spot}
 use Rattle.tree.specs.Search.{aimed}
 use Rattle.tree.specs.Steps.{spot_before, spot}
-use Rattle.cursor.specs.Gap.{aim_of, gap_words, rest_words}
+use Rattle.cursor.specs.Gap.{aim_of, gap_words, named_key, rest_words}
 use Rattle.model.proofs.Cases.{either, either-eq, never}
 use Rattle.model.proofs.Head.{head-facts}
 use Rattle.model.proofs.Entries.{has_key, gap-after-has}
@@ -58,15 +58,26 @@ passes-cursor w e =
       opened = either-eq (open_word w) 0 (λ z. let shut = rw (eq-eqb (open_word w) 0 z) at a.2 in omega arith) (λ n. omega arith);
     }
 
+-- ---- the key that the gap names
+
+pub named-none : (w : List ℕ) → None ≡ named_key w → after_word w ≡ 0
+named-none w e = either-eq (after_word w) 0 (λ z. z) (λ n. never (cc (rw (ne_eqb (after_word w) 0 n) at e)))
+
+pub named-some : (w : List ℕ) {k : ℕ} → headed w ≡ true → Some k ≡ named_key w → (after_word w ≡ 1) × (k ≡ key_word w)
+named-some w fits e =
+    either-eq (after_word w) 0
+    (λ z. never (cc (rw (eq-eqb (after_word w) 0 z) at e)))
+    (λ n. (omega (arith, (head-facts w fits).after), cc (rw (ne_eqb (after_word w) 0 n) at e)))
+
 -- ---- where the gap is, in a sound pool
 
--- the entry that an open cursor's gap names: entry g, of the gap after it
-pub record Named (w : List ℕ) (g : ℕ) : Type 0 where
+-- the entry that an open cursor's gap names, with key k: entry g, of the gap after it
+pub record Named (w : List ℕ) (k g : ℕ) : Type 0 where
   pub at : gap_by (pool_of w) ≡ suc g
   pub there : g < length (held_by (pool_of w))
-  pub key : (get_or (held_by (pool_of w)) g no_entry).key ≡ key_word w
-  pub before : gap_before (key_word w) (held_by (pool_of w)) ≡ g
-  pub member : member w (key_word w) ≡ true
+  pub key : (get_or (held_by (pool_of w)) g no_entry).key ≡ k
+  pub before : gap_before k (held_by (pool_of w)) ≡ g
+  pub member : member w k ≡ true
 
 module _ (w : List ℕ) (s : Sound w) where
   pub gap-start : after_word w ≡ 0 → gap_by (pool_of w) ≡ 0
@@ -80,7 +91,7 @@ module _ (w : List ℕ) (s : Sound w) where
       (λ z. rw (gap-start z, eq-eqb (after_word w) 0 z) (entries.gap-start (held_by (pool_of w))))
       (λ n. rw (ne_eqb (after_word w) 0 n, ne_eqb (open_word w) 0 (λ z. n (s.closed z).0)))
 
-  pub gap-named : open_word w ≡ 1 → after_word w ≡ 1 → (g : ℕ) × Named w g
+  pub gap-named : open_word w ≡ 1 → after_word w ≡ 1 → (g : ℕ) × Named w (key_word w) g
   unfolding pool_of cursor_of
   gap-named o a =
       let es = held_by (pool_of w) in

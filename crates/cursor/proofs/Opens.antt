@@ -53,8 +53,15 @@ module _ {aim : Aim} {w ps ss ps' ss' : List ℕ} {x : Unsound} where
   pub opens-unsound : {read : ℕ} → Seeks w aim ps ss ps' ss' (Err x) → Opens aim read w w (Err reason.Unsound)
   opens-unsound sought = record { long = refl; refused = λ e q. (cc, refl, λ s. never (cc (sought.sound s))); opens = λ n q. never (cc) }
 
-module _ {aim : Aim} {w ps ss ps' ss' : List ℕ} (sought : Seeks w aim ps ss ps' ss' (Ok tt)) where
-  pub opens-sought : {r : Option Spot} {v : List ℕ} {n : ℕ} → SpotBefore w ps' ss' r → v ≡ rest_words r w → n ≡ levels_word w → Opens aim (levels_word w) w v (Ok n)
+-- any gap but the start takes all levels
+read-all : (aim : Aim) (levels : ℕ) → (aim ≡ Start → ⊥) → aim_read aim levels ≡ levels
+read-all (Before k) levels other = refl
+read-all (After k) levels other = refl
+read-all Start levels other = absurd (other refl)
+read-all End levels other = refl
+
+module _ {aim : Aim} {w ps ss ps' ss' : List ℕ} (sought : Seeks w aim ps ss ps' ss' (Ok tt)) (other : aim ≡ Start → ⊥) where
+  pub opens-sought : {r : Option Spot} {v : List ℕ} {n : ℕ} → SpotBefore w ps' ss' r → v ≡ rest_words r w → n ≡ levels_word w → Opens aim (aim_read aim (levels_word w)) w v (Ok n)
   unfolding held
   opens-sought {r} before laid levels =
       let P = pool_of w in
@@ -64,7 +71,7 @@ module _ {aim : Aim} {w ps ss ps' ss' : List ℕ} (sought : Seeks w aim ps ss ps
         long = ap length laid ∙ rest-long r w;
         refused = λ e q. never (cc);
         opens = λ m q. (
-          cc,
+          cc (q, levels, read-all aim (levels_word w) other),
           λ s. rw laid (rest-written w g r s inside (before.exact 1 P.whole.levels P.whole.tree g (sound-sits w s) inside (sought.path s))),
         );
       }

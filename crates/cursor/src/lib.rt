@@ -4,11 +4,8 @@
 // refusal has changed no word.
 #![tactic(auto)]
 
-ghost use Rattle.std.specs.Prelude.{◌≡◌, true, length};
-ghost use Rattle.model.specs.Head.{levels_word, after_word, headed};
-ghost use Rattle.model.specs.Refusal.{refusal};
 ghost use Rattle.model.specs.Call.{Meets};
-ghost use Rattle.model.specs.CursorCalls.{cursor_tests, cursor_next, cursor_prev, cursor_peek_next, cursor_peek_prev, cursor_write_next, cursor_write_prev, Closes};
+ghost use Rattle.model.specs.CursorCalls.{cursor_next, cursor_prev, cursor_peek_next, cursor_peek_prev, cursor_write_next, cursor_write_prev, Closes};
 ghost use Rattle.map.specs.Answers.{outcome_of, itself, option_of};
 ghost use Rattle.cursor.specs.Answers.{entry_of};
 
@@ -19,8 +16,9 @@ pub mod opening;
 pub mod play;
 
 use map::refusal::Refusal;
-use model::{AFTER, KEY, MOST_LEVELS};
+use model::MOST_LEVELS;
 use page::Entry;
+use tree::steps::Spot;
 
 // ---- over an entry
 
@@ -33,46 +31,29 @@ pub fn next(pool: &mut [u64]) -> Result<Option<Entry>, Refusal>
         return Ok(None);
     };
     let e = lend::pages::entry_at(pool, spot.page, spot.slot);
-    gap::lay(pool, 1, 1, e.key);
+    gap::lay(pool, Some(e.key));
     Ok(Some(e))
 }
 
-// The gap back over the entry that it names: the search for that entry finds the gap before it too.
-fn back(
-    pool: &mut [u64],
-    pages: &mut [usize],
-    slots: &mut [usize],
-) -> Result<Option<Entry>, Refusal>
-    requires pool_value { refusal (cursor_tests pool.old) ≡ 0 }
-    requires pool_value_2 { (headed pool.old ≡ true) × (after_word pool.old ≡ 1) }
-    requires pages_len { (length pages.old ≡ levels_word pool.old) × (length slots.old ≡ levels_word pool.old) }
-    ensures { Meets cursor_prev pool.old pool.new (outcome_of entry_of result) }
-{
-    let key = pool[KEY];
-    let Some(spot) = map::entry::seek(pool, key, pages, slots)? else {
-        return Err(Refusal::Unsound);
-    };
-    let e = lend::pages::entry_at(pool, spot.page, spot.slot);
-    let behind = tree::steps::spot_before(pool, pages, slots);
-    gap::rest(pool, behind);
-    Ok(Some(Entry {
-        key,
-        value: e.value,
-    }))
-}
-
-// The entry before the gap, and the gap goes over it.
+// The entry before the gap, and the gap goes over it: the search for that entry finds the gap before it too.
+// The path lies in the frame, for there is no heap.
 pub fn prev(pool: &mut [u64]) -> Result<Option<Entry>, Refusal>
     ensures { Meets cursor_prev pool.old pool.new (outcome_of entry_of result) }
 {
     gap::ready(pool)?;
-    if pool[AFTER] == 0 {
+    let Some(key) = gap::named(pool) else {
         return Ok(None);
-    }
+    };
     let levels = lend::head::levels(pool);
-    let mut pages = [0usize; MOST_LEVELS];
-    let mut slots = [0usize; MOST_LEVELS];
-    back(pool, &mut pages[0..levels], &mut slots[0..levels])
+    let mut places = [Spot::default(); MOST_LEVELS];
+    let path = &mut places[..levels];
+    let Some(spot) = map::entry::seek(pool, key, path)? else {
+        return Err(Refusal::Unsound);
+    };
+    let value = lend::pages::entry_at(pool, spot.page, spot.slot).value;
+    let behind = tree::steps::spot_before(pool, path);
+    gap::rest(pool, behind);
+    Ok(Some(Entry { key, value }))
 }
 
 // ---- the gap stays
@@ -93,10 +74,9 @@ pub fn peek_prev(pool: &[u64]) -> Result<Option<Entry>, Refusal>
     ensures { Meets cursor_peek_prev pool.now pool.now (outcome_of entry_of result) }
 {
     gap::ready(pool)?;
-    if pool[AFTER] == 0 {
+    let Some(key) = gap::named(pool) else {
         return Ok(None);
-    }
-    let key = pool[KEY];
+    };
     let Some(found) = tree::search::get(pool, key)? else {
         return Err(Refusal::Unsound);
     };
@@ -122,10 +102,9 @@ pub fn write_prev(pool: &mut [u64], value: u64) -> Result<Option<u64>, Refusal>
     ensures { Meets (cursor_write_prev value) pool.old pool.new (outcome_of option_of result) }
 {
     gap::ready(pool)?;
-    if pool[AFTER] == 0 {
+    let Some(key) = gap::named(pool) else {
         return Ok(None);
-    }
-    let key = pool[KEY];
+    };
     let Some(spot) = map::entry::find(pool, key)? else {
         return Err(Refusal::Unsound);
     };
@@ -137,6 +116,6 @@ pub fn close(pool: &mut [u64]) -> Result<(), Refusal>
     ensures { Closes pool.old pool.new (outcome_of itself result) }
 {
     gap::ready(pool)?;
-    gap::lay(pool, 0, 0, 0);
+    gap::clear(pool);
     Ok(())
 }

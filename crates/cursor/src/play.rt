@@ -13,7 +13,8 @@ use map::refusal::Refusal;
 use page::Entry;
 
 // Playback that ends with no further entry, after `n`: where the first next is refused it is refused; else it has told
-// what it wrote.
+// what it wrote. Beside the list's `stop`, whose step is refused for one reason alone: one over both errors would promise
+// less of each.
 fn stop(step: Result<Option<Entry>, Refusal>, n: usize) -> Result<usize, Refusal>
     ensures { PlayStops step n result }
 {
@@ -23,7 +24,7 @@ fn stop(step: Result<Option<Entry>, Refusal>, n: usize) -> Result<usize, Refusal
     Ok(n)
 }
 
-// Past the tests: at most `most` entries.
+// Past the tests: at most `most` entries. By the index, which is how many were written where it ends early.
 fn run(
     pool: &mut [u64],
     most: usize,
@@ -45,7 +46,8 @@ fn run(
     Ok(most)
 }
 
-// The entries after the gap, as many as the shorter slice takes; the gap goes over them.
+// The entries after the gap, as many as the shorter slice takes; the gap goes over them. Two slices, and none of
+// entries, for C lends two arrays.
 pub fn play(pool: &mut [u64], keys: &mut [u64], values: &mut [u64]) -> Result<usize, Refusal>
     ensures { Plays pool.old pool.new (key_column keys.old keys.new ∷ value_column values.old values.new ∷ []) (outcome_of itself result) }
 {

@@ -1,4 +1,5 @@
 // The page map, lent out of the pool, `&mut pool[32..96]`, to the crate `pagemap`. P is taken from the pool's length.
+// What clauses ask of the pool no type says: the reason stands in src/lib.rt.
 ghost use Rattle.model.specs.Layout.{today, first_word, pages_in};
 ghost use Rattle.std.specs.Prelude.{◌≡◌, ◌≤◌, eqb, length};
 ghost use Rattle.model.specs.PageMap.{bit_at};

@@ -1,5 +1,5 @@
 // The head: whether the length is allowed and the head fits, which every call asks first, and the number of levels. The
-// tests come in document 01's order.
+// tests come in document 01's order. What clauses ask of the pool no type says: the reason stands in src/lib.rt.
 ghost use Rattle.model.specs.Layout.{today, head_words, most_pages, most_levels, allowed};
 ghost use Rattle.std.specs.Prelude.{◌≡◌, true, map, ◌≤◌, eqb, length};
 ghost use Rattle.model.specs.Basics.{every};

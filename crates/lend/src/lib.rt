@@ -3,6 +3,11 @@
 // page numbers lie inside it; the number of levels alone asks for a head that fits.
 #![tactic(auto)]
 
+// Clauses, and no type, say that the head fits, that there is room for head and page map, and that a page lies inside.
+// A pool is lent by C as `&[u64]` or `&mut [u64]`, and every function takes any words. A type with an invariant would
+// be needed twice, shared and mutable, and built again after each store, for on unsound words nothing is promised of
+// the head or of page numbers after a change; and contracts would speak of `pool.words.now`. That is no plainer.
+
 pub mod bits;
 pub mod head;
 pub mod pages;

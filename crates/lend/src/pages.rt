@@ -1,6 +1,6 @@
 // A page lent out of the pool's middle, `&mut pool[a..b]`, to the crate `page`; and what moves between two pages of one
 // pool, which are lent one after the other: an entry and a child travel by value, one at a time. Every function takes
-// any words; page numbers lie inside the pool.
+// any words; page numbers lie inside the pool, which clauses ask and no type says: the reason stands in src/lib.rt.
 ghost use Rattle.model.specs.Layout.{today, page_words};
 ghost use Rattle.std.specs.Prelude.{◌≡◌, ◌≢◌, true, false, [], ◌∷◌, suc, ◌+◌, ◌-◌, ◌≤◌, ◌<◌, length, get_or};
 ghost use Rattle.model.specs.Basics.{ins, every};
@@ -223,53 +223,41 @@ fn apart(u: usize, l: usize, r: usize) -> bool
     u != l && u != r && l != r
 }
 
-// Whether one entry can go from page `from` to page `to` through entry `i` of page `u`.
-fn can_pass(
-    pool: &[u64],
-    u: usize,
-    i: usize,
-    from: usize,
-    fs: usize,
-    fa: usize,
-    to: usize,
-    ts: usize,
-    ta: usize,
-) -> bool
-    requires { Inside u pool.now × Inside from pool.now × Inside to pool.now }
-    ensures { result ≡ can_pass pool.now u i from fs fa to ts ta }
-{
-    apart(u, from, to)
-        && page::holds(page_at(pool, u), MOST, i, 0)
-        && page::holds(page_at(pool, from), MOST, fs, fa)
-        && page::has_room(page_at(pool, to), MOST, ts, ta)
+// Where an entry stands or goes, with the child beside it: a page, a slot and the child's place.
+#[derive(Clone, Copy, Debug, PartialEq, Eq)]
+struct Seat {
+    page: usize,
+    slot: usize,
+    child: usize,
 }
 
-// The entry at slot `fs` of page `from` goes up to entry `i` of page `u`, and that one down before slot `ts` of page
-// `to`; the child at `fa` goes along, to `ta`. What the three pages are asked for was tested, so none of them refuses.
-#[tactic(auto, using(crate::proofs::Several::tests))]
-fn pass(
-    pool: &mut [u64],
-    u: usize,
-    i: usize,
-    from: usize,
-    fs: usize,
-    fa: usize,
-    to: usize,
-    ts: usize,
-    ta: usize,
-) -> Result<(), Unsound>
-    requires { Inside u pool.old × Inside from pool.old × Inside to pool.old }
-    ensures { PassesIn u i from fs fa to ts ta (can_pass pool.old u i from fs fa to ts ta) pool.old pool.new result }
+// Whether one entry can go from seat `from` to seat `to` through entry `i` of page `u`.
+fn can_pass(pool: &[u64], u: usize, i: usize, from: Seat, to: Seat) -> bool
+    requires { Inside u pool.now × Inside from.page pool.now × Inside to.page pool.now }
+    ensures { result ≡ can_pass pool.now u i from.page from.slot from.child to.page to.slot to.child }
 {
-    if !can_pass(pool, u, i, from, fs, fa, to, ts, ta) {
+    apart(u, from.page, to.page)
+        && page::holds(page_at(pool, u), MOST, i, 0)
+        && page::holds(page_at(pool, from.page), MOST, from.slot, from.child)
+        && page::has_room(page_at(pool, to.page), MOST, to.slot, to.child)
+}
+
+// The entry at seat `from` goes up to entry `i` of page `u`, and that one down to seat `to`; the child at `from` goes
+// along, to the child's place at `to`. What the three pages are asked for was tested, so none of them refuses.
+#[tactic(auto, using(crate::proofs::Several::tests))]
+fn pass(pool: &mut [u64], u: usize, i: usize, from: Seat, to: Seat) -> Result<(), Unsound>
+    requires { Inside u pool.old × Inside from.page pool.old × Inside to.page pool.old }
+    ensures { PassesIn u i from.page from.slot from.child to.page to.slot to.child (can_pass pool.old u i from.page from.slot from.child to.page to.slot to.child) pool.old pool.new result }
+{
+    if !can_pass(pool, u, i, from, to) {
         return Err(Unsound);
     }
     let between = entry_at(pool, u, i);
-    let moved = entry_at(pool, from, fs);
-    let child = child_at(pool, from, fa);
-    insert(pool, to, ts, between, ta, child).unwrap();
+    let moved = entry_at(pool, from.page, from.slot);
+    let child = child_at(pool, from.page, from.child);
+    insert(pool, to.page, to.slot, between, to.child, child).unwrap();
     set_entry(pool, u, i, moved).unwrap();
-    remove(pool, from, fs, fa)
+    remove(pool, from.page, from.slot, from.child)
 }
 
 // The right page takes one through the parent from its left neighbour.
@@ -281,7 +269,17 @@ pub fn take_left(pool: &mut [u64], u: usize, i: usize, l: usize, r: usize) -> Re
     if n == 0 {
         return Err(Unsound);
     }
-    pass(pool, u, i, l, n - 1, n, r, 0, 0)
+    let last = Seat {
+        page: l,
+        slot: n - 1,
+        child: n,
+    };
+    let front = Seat {
+        page: r,
+        slot: 0,
+        child: 0,
+    };
+    pass(pool, u, i, last, front)
 }
 
 // The left page takes one through the parent from its right neighbour.
@@ -293,7 +291,17 @@ pub fn take_right(pool: &mut [u64], u: usize, i: usize, l: usize, r: usize) -> R
     if MOST < n {
         return Err(Unsound);
     }
-    pass(pool, u, i, r, 0, 0, l, n, n + 1)
+    let first = Seat {
+        page: r,
+        slot: 0,
+        child: 0,
+    };
+    let end = Seat {
+        page: l,
+        slot: n,
+        child: n + 1,
+    };
+    pass(pool, u, i, first, end)
 }
 
 // Whether two neighbours and the entry between them fit into one page.

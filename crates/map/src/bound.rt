@@ -8,25 +8,35 @@ ghost use Rattle.map.specs.Bound.{lower_by, upper_by};
 use crate::refusal::Refusal;
 use tree::search::Aim;
 
+// A bound as a caller gives it: its kind and its key. The kind is a number and no enum: a call takes any, as C passes
+// it, and refuses others.
+#[derive(Clone, Copy, Debug, PartialEq, Eq)]
+pub struct Bound {
+    pub kind: u64,
+    pub key: u64,
+}
+
 // The gap that a lower bound names.
-pub fn lower(kind: u64, key: u64) -> Result<Aim, Refusal>
-    ensures { result ≡ lower_by kind key }
+pub fn lower(bound: Bound) -> Result<Aim, Refusal>
+    ensures { result ≡ lower_by bound.kind bound.key }
 {
+    let kind = bound.kind;
     match kind {
-        0 => Ok(Aim::Before(key)),
-        1 => Ok(Aim::After(key)),
+        0 => Ok(Aim::Before(bound.key)),
+        1 => Ok(Aim::After(bound.key)),
         2 => Ok(Aim::Start),
         3.. => Err(Refusal::BadBound),
     }
 }
 
-// The gap that an upper bound names.
-pub fn upper(kind: u64, key: u64) -> Result<Aim, Refusal>
-    ensures { result ≡ upper_by kind key }
+// The gap that an upper bound names: another side for each kind, so one function for both ends would be no shorter.
+pub fn upper(bound: Bound) -> Result<Aim, Refusal>
+    ensures { result ≡ upper_by bound.kind bound.key }
 {
+    let kind = bound.kind;
     match kind {
-        0 => Ok(Aim::After(key)),
-        1 => Ok(Aim::Before(key)),
+        0 => Ok(Aim::After(bound.key)),
+        1 => Ok(Aim::Before(bound.key)),
         2 => Ok(Aim::End),
         3.. => Err(Refusal::BadBound),
     }

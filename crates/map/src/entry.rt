@@ -1,9 +1,11 @@
 // One entry, by its key, in a pool of either kind: where it stands, in a pool whose head fits; where the cursor is
 // closed too, a new one put in, one struck out; and get and contains, which are asked for a kind. One descent each. The
-// path is lent from two small arrays in the frame.
+// path is lent from a small array in the frame, by each call anew: there is no heap, and a frame can't be handed out.
+// What clauses ask of the pool no type says: the reason stands in the crate lend, src/lib.rt.
 ghost use Rattle.std.specs.Prelude.{◌≡◌, true, length};
 ghost use Rattle.model.specs.Head.{levels_word, headed};
 ghost use Rattle.model.specs.Call.{ReadsPages};
+ghost use Rattle.tree.specs.Sits.{pages_of, slots_of};
 ghost use Rattle.map.specs.Answers.{outcome_of, found_of, seen_of};
 ghost use Rattle.map.specs.Entry.{Changeable, SeeksKey, Finds, Adds, Strikes, gets_in, contains_in};
 
@@ -15,18 +17,13 @@ use tree::search::Aim;
 use tree::steps::Spot;
 
 // The path of the gap before a key, and whether the entry after it is the key's.
-pub fn seek(
-    pool: &[u64],
-    key: u64,
-    pages: &mut [usize],
-    slots: &mut [usize],
-) -> Result<Option<Spot>, Unsound>
+pub fn seek(pool: &[u64], key: u64, path: &mut [Spot]) -> Result<Option<Spot>, Unsound>
     requires pool_value { headed pool.now ≡ true }
-    requires pages_len { (length pages.old ≡ levels_word pool.now) × (length slots.old ≡ levels_word pool.now) }
-    ensures { SeeksKey pool.now key pages.old slots.old pages.new slots.new result }
+    requires path_len { length path.old ≡ levels_word pool.now }
+    ensures { SeeksKey pool.now key (pages_of path.old) (slots_of path.old) (pages_of path.new) (slots_of path.new) result }
 {
-    tree::search::seek(pool, Aim::Before(key), pages, slots)?;
-    let Some(spot) = tree::steps::spot_after(pool, pages, slots) else {
+    tree::search::seek(pool, Aim::Before(key), path)?;
+    let Some(spot) = tree::steps::spot_after(pool, path) else {
         return Ok(None);
     };
     if lend::pages::entry_at(pool, spot.page, spot.slot).key == key {
@@ -41,26 +38,8 @@ pub fn find(pool: &[u64], key: u64) -> Result<Option<Spot>, Unsound>
     ensures { Finds pool.now key result }
 {
     let levels = lend::head::levels(pool);
-    let mut pages = [0usize; MOST_LEVELS];
-    let mut slots = [0usize; MOST_LEVELS];
-    seek(pool, key, &mut pages[0..levels], &mut slots[0..levels])
-}
-
-fn add_by(
-    pool: &mut [u64],
-    entry: Entry,
-    pages: &mut [usize],
-    slots: &mut [usize],
-) -> Result<Option<Spot>, Refusal>
-    requires changeable { Changeable pool.old }
-    requires pages_len { (length pages.old ≡ levels_word pool.old) × (length slots.old ≡ levels_word pool.old) }
-    ensures { Adds entry.key entry.value pool.old pool.new result }
-{
-    if let Some(spot) = seek(pool, entry.key, pages, slots)? {
-        return Ok(Some(spot));
-    }
-    tree::insert::insert(pool, pages, slots, entry)?;
-    Ok(None)
+    let mut path = [Spot::default(); MOST_LEVELS];
+    seek(pool, key, &mut path[..levels])
 }
 
 // The entry of a key that has none; else where the one stands that it has, and no word is changed.
@@ -69,27 +48,13 @@ pub fn add(pool: &mut [u64], entry: Entry) -> Result<Option<Spot>, Refusal>
     ensures { Adds entry.key entry.value pool.old pool.new result }
 {
     let levels = lend::head::levels(pool);
-    let mut pages = [0usize; MOST_LEVELS];
-    let mut slots = [0usize; MOST_LEVELS];
-    add_by(pool, entry, &mut pages[0..levels], &mut slots[0..levels])
-}
-
-fn strike_by(
-    pool: &mut [u64],
-    key: u64,
-    pages: &mut [usize],
-    slots: &mut [usize],
-) -> Result<Option<u64>, Unsound>
-    requires changeable { Changeable pool.old }
-    requires pages_len { (length pages.old ≡ levels_word pool.old) × (length slots.old ≡ levels_word pool.old) }
-    ensures { Strikes key pool.old pool.new result }
-{
-    let Some(spot) = seek(pool, key, pages, slots)? else {
-        return Ok(None);
-    };
-    let struck = lend::pages::entry_at(pool, spot.page, spot.slot);
-    tree::remove::remove(pool, pages, slots)?;
-    Ok(Some(struck.value))
+    let mut places = [Spot::default(); MOST_LEVELS];
+    let path = &mut places[..levels];
+    if let Some(spot) = seek(pool, entry.key, path)? {
+        return Ok(Some(spot));
+    }
+    tree::insert::insert(pool, path, entry)?;
+    Ok(None)
 }
 
 // A key's entry goes; the value that it had.
@@ -98,9 +63,14 @@ pub fn strike(pool: &mut [u64], key: u64) -> Result<Option<u64>, Unsound>
     ensures { Strikes key pool.old pool.new result }
 {
     let levels = lend::head::levels(pool);
-    let mut pages = [0usize; MOST_LEVELS];
-    let mut slots = [0usize; MOST_LEVELS];
-    strike_by(pool, key, &mut pages[0..levels], &mut slots[0..levels])
+    let mut places = [Spot::default(); MOST_LEVELS];
+    let path = &mut places[..levels];
+    let Some(spot) = seek(pool, key, path)? else {
+        return Ok(None);
+    };
+    let struck = lend::pages::entry_at(pool, spot.page, spot.slot);
+    tree::remove::remove(pool, path)?;
+    Ok(Some(struck.value))
 }
 
 // ---- the reading calls of both kinds

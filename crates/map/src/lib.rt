@@ -31,7 +31,8 @@ pub struct Seen {
     pub read: usize,
 }
 
-// The key's entry, new or over the one that it had, whose value is answered.
+// The key's entry, new or over the one that it had, whose value is answered. Key and value are two numbers, as in
+// BTreeMap's `insert` and as C passes them; so they are in `replace`.
 pub fn insert(pool: &mut [u64], key: u64, value: u64) -> Result<Option<u64>, Refusal>
     ensures { Meets (map_insert key value) pool.old pool.new (outcome_of option_of result) }
 {

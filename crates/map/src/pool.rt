@@ -20,7 +20,8 @@ fn lay(pool: &mut [u64], kind: u64)
     pool[KIND] = kind;
 }
 
-// A new pool of a kind, in any words of a length that is allowed.
+// A new pool of a kind, in any words of a length that is allowed. The kind may be any number, as C passes it; one that
+// is no kind's is refused.
 pub fn make(pool: &mut [u64], kind: u64) -> Result<(), Refusal>
     ensures { Makes kind pool.old pool.new (outcome_of itself result) }
 {

@@ -9,7 +9,7 @@ ghost use Rattle.map.specs.Answers.{number_of, early_number};
 use model::{KIND, OPEN};
 use tree::insert::Full;
 
-// The kinds of pool.
+// The kinds of pool. Numbers and no enum: a call takes any number for a kind, as C passes it, and refuses others.
 pub const MAP: u64 = 0;
 
 pub const SET: u64 = 1;
@@ -17,7 +17,7 @@ pub const SET: u64 = 1;
 // Why a call is refused; document 01's numbers, 1 to 9, in this order.
 #[derive(Clone, Copy, Debug, PartialEq, Eq)]
 pub enum Refusal {
-    Unfit,
+    Unfit = 1,
     OtherKind,
     BadBound,
     Opened,
@@ -50,17 +50,7 @@ impl From<Full> for Refusal {
 pub fn number(why: Refusal) -> u64
     ensures { result ≡ number_of why }
 {
-    match why {
-        Refusal::Unfit => 1,
-        Refusal::OtherKind => 2,
-        Refusal::BadBound => 3,
-        Refusal::Opened => 4,
-        Refusal::Closed => 5,
-        Refusal::Misplaced => 6,
-        Refusal::NoRoom => 7,
-        Refusal::Lengths => 8,
-        Refusal::Unsound => 9,
-    }
+    why as u64
 }
 
 // Past the first tests of a call that reads a pool of a kind.

@@ -1,4 +1,5 @@
 // The set's calls: a set is a map whose values are 0. Its list is that of its keys.
+// Each bound of the list is a kind and a key, as C passes them: any numbers are taken.
 ghost use Rattle.std.specs.Prelude.{[], ◌∷◌};
 ghost use Rattle.model.specs.Bound.{bound_of};
 ghost use Rattle.model.specs.Refusal.{set_kind};
@@ -7,6 +8,7 @@ ghost use Rattle.model.specs.SetCalls.{set_insert, set_get, set_contains, set_re
 ghost use Rattle.model.specs.ListCalls.{key_column, Lists, list_tests};
 ghost use Rattle.map.specs.Answers.{outcome_of, itself, found_of, seen_of};
 
+use crate::bound::Bound;
 use crate::refusal::{Refusal, SET};
 use crate::{Got, Seen, entry, list, refusal};
 use page::Entry;
@@ -46,15 +48,8 @@ pub fn remove(pool: &mut [u64], key: u64) -> Result<bool, Refusal>
 }
 
 // The keys between two bounds, into a lent slice; how many were written.
-pub fn list(
-    pool: &[u64],
-    lower: u64,
-    from: u64,
-    upper: u64,
-    to: u64,
-    keys: &mut [u64],
-) -> Result<usize, Refusal>
-    ensures { Lists (list_tests set_kind lower upper pool.now) (bound_of lower from) (bound_of upper to) pool.now (key_column keys.old keys.new ∷ []) (outcome_of itself result) }
+pub fn list(pool: &[u64], lower: Bound, upper: Bound, keys: &mut [u64]) -> Result<usize, Refusal>
+    ensures { Lists (list_tests set_kind lower.kind upper.kind pool.now) (bound_of lower.kind lower.key) (bound_of upper.kind upper.key) pool.now (key_column keys.old keys.new ∷ []) (outcome_of itself result) }
 {
-    list::keys_of(pool, SET, lower, from, upper, to, keys)
+    list::keys_of(pool, SET, lower, upper, keys)
 }

@@ -1,4 +1,5 @@
 // The numbers of the layout, as code has them, each in this one place; what they stand for is in specs/Layout.
+// Of itself a pool says only how many pages it has; all others are the same for every pool.
 #![tactic(auto)]
 
 ghost use Rattle.std.specs.Prelude.{◌≡◌, ◌≤◌};

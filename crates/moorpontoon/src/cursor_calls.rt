@@ -7,6 +7,7 @@ ghost use Rattle.moorpontoon.specs.Exported.{Called};
 
 use crate::give::{OUT, SHORT, give};
 use cursor::{edit, opening};
+use map::bound::Bound;
 
 // The gap before the first entry that a lower bound lets in.
 #[unsafe(no_mangle)]
@@ -21,7 +22,7 @@ pub extern "C" fn mp_cursor_open_lower(
     if out.len() < OUT {
         return SHORT;
     }
-    give(out, opening::lower(pool, kind, key))
+    give(out, opening::lower(pool, Bound { kind, key }))
 }
 
 // The gap after the last entry that an upper bound lets in.
@@ -37,7 +38,7 @@ pub extern "C" fn mp_cursor_open_upper(
     if out.len() < OUT {
         return SHORT;
     }
-    give(out, opening::upper(pool, kind, key))
+    give(out, opening::upper(pool, Bound { kind, key }))
 }
 
 // The entry after the gap, and the gap goes over it.

@@ -1,4 +1,5 @@
 // Each answer taken apart: its words go to the front of `out`, and the number to return is 0, or the refusal's.
+// The number comes by itself and not with the words: C reads the one from the result, the others from `out`.
 ghost use Rattle.std.specs.Prelude.{◌≤◌, ◌≡◌, List, ℕ, length};
 ghost use Rattle.model.specs.ListCalls.{fronted};
 ghost use Rattle.map.specs.Answers.{outcome_of, itself, option_of, found_of, seen_of};

@@ -9,6 +9,7 @@ ghost use Rattle.moorpontoon.specs.Words.{perhaps, found, seen};
 ghost use Rattle.moorpontoon.specs.Exported.{Called, ListsCalled};
 
 use crate::give::{OUT, SHORT, give};
+use map::bound::Bound;
 use map::list;
 
 // The key's entry, new or over the one that it had.
@@ -83,10 +84,15 @@ pub extern "C" fn mp_map_list_entries(
     if out.len() < OUT {
         return SHORT;
     }
-    give(
-        out,
-        list::entries(pool, lower, from, upper, to, keys, values),
-    )
+    let lower = Bound {
+        kind: lower,
+        key: from,
+    };
+    let upper = Bound {
+        kind: upper,
+        key: to,
+    };
+    give(out, list::entries(pool, lower, upper, keys, values))
 }
 
 // Their keys.
@@ -105,7 +111,15 @@ pub extern "C" fn mp_map_list_keys(
     if out.len() < OUT {
         return SHORT;
     }
-    give(out, list::keys(pool, lower, from, upper, to, keys))
+    let lower = Bound {
+        kind: lower,
+        key: from,
+    };
+    let upper = Bound {
+        kind: upper,
+        key: to,
+    };
+    give(out, list::keys(pool, lower, upper, keys))
 }
 
 // Their values.
@@ -124,5 +138,13 @@ pub extern "C" fn mp_map_list_values(
     if out.len() < OUT {
         return SHORT;
     }
-    give(out, list::values(pool, lower, from, upper, to, values))
+    let lower = Bound {
+        kind: lower,
+        key: from,
+    };
+    let upper = Bound {
+        kind: upper,
+        key: to,
+    };
+    give(out, list::values(pool, lower, upper, values))
 }

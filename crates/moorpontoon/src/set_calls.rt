@@ -9,6 +9,7 @@ ghost use Rattle.moorpontoon.specs.Words.{whether, found, seen};
 ghost use Rattle.moorpontoon.specs.Exported.{Called, ListsCalled};
 
 use crate::give::{OUT, SHORT, give};
+use map::bound::Bound;
 use map::set;
 
 // The key, if it is new.
@@ -71,5 +72,13 @@ pub extern "C" fn mp_set_list(
     if out.len() < OUT {
         return SHORT;
     }
-    give(out, set::list(pool, lower, from, upper, to, keys))
+    let lower = Bound {
+        kind: lower,
+        key: from,
+    };
+    let upper = Bound {
+        kind: upper,
+        key: to,
+    };
+    give(out, set::list(pool, lower, upper, keys))
 }

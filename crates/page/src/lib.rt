@@ -1,6 +1,7 @@
 // A page: word 0 the entry count, word 1 the height, then keys, values and child page numbers. Each function works on
 // the words of one page, which are lent; any words are taken. `most` is the most entries a page may hold: 9 gives keys
 // from word 2, values from 11, children from 20. In a leaf, whose height is 0, children are neither moved nor promised.
+// Clauses ask that a page is long enough, and no type says it: each call lends the page anew out of a pool's words.
 #![tactic(auto)]
 
 ghost use Rattle.std.specs.Prelude.{◌≡◌, true, false, suc, ◌+◌, ◌*◌, ◌≤◌, ◌<◌, length, get_or};
@@ -15,13 +16,17 @@ ghost use Rattle.page.specs.Page.{Long, plain, said, firsts, count_in, room_at, 
 
 pub mod runs;
 
+// `most` goes with the page into each function, and no struct has the two: what is lent is words, shared or to be
+// changed, and a struct would be made anew for each call.
+
 // ---- reading
 
 // A page that can't be: its words are no page's of a sound pool, and nothing has been stored.
 #[derive(Clone, Copy, Debug, PartialEq, Eq)]
 pub struct Unsound;
 
-// Where a key belongs in a page: at the entry that has it, or in the gap of a slot.
+// Where a key belongs in a page: at the entry that has it, or in the gap of a slot. No `Result<usize, usize>`, as a
+// binary search answers, since `find` has an error of its own: one in the other would be no plainer.
 #[derive(Clone, Copy)]
 pub enum Place {
     Here(usize),
@@ -58,7 +63,7 @@ pub fn gap_before(page: &[u64], most: usize, key: u64) -> Result<usize, Unsound>
 }
 
 // The slot of the gap after `key`: after the keys up to it. Above the leaves the way there is mostly that of the call
-// before, as from next to next.
+// before, as from next to next, and `walk` is faster; so this is not `gap_before` with another bit.
 #[tactic(auto, using(crate::proofs::Finding::counts))]
 pub fn gap_after(page: &[u64], most: usize, key: u64) -> Result<usize, Unsound>
     requires { Long most page.now × (most < 64) }
@@ -292,7 +297,8 @@ pub fn wider_entry(page: &[u64], most: usize, slot: usize, entry: Entry, i: usiz
     }
 }
 
-// Child `i` of the page with one child more, which stands at `at`.
+// Child `i` of the page with one child more, which stands at `at`. Not one function with `wider_entry`: it would be
+// lent a closure for what stands at a place, with clauses of its own, for three cases.
 pub fn wider_child(page: &[u64], most: usize, at: usize, child: u64, i: usize) -> u64
     requires { Long most page.now × (count_of page.now ≤ most) × (at ≤ suc (count_of page.now)) × (i ≤ suc (count_of page.now)) }
     ensures { result ≡ get_or (ins at child (children_of most page.now)) i 0 }

@@ -1,4 +1,5 @@
 // Any run of words: one more, one less, the place of a key. Each word is moved or compared once.
+// The runs of a page are short, so a wrongly foretold jump weighs more than the words that one could spare.
 ghost use Rattle.std.specs.Prelude.{◌≡◌, true, ◌++◌, suc, ◌+◌, ◌-◌, ◌≤◌, ◌<◌, length, take, drop};
 ghost use Rattle.model.specs.Basics.{ins, del};
 ghost use Rattle.page.specs.Runs.{part, Changed, leading, up_to};
@@ -28,7 +29,8 @@ pub fn pull_out(s: &mut [u64], at: usize)
 
 // How many of the first `n` words stand in front that are below `key` or, where `past`, at most `key`. All words are
 // compared, with no jump on the way: where a key belongs can't be foreseen, and a jump foretold wrongly costs more than
-// the rest of a page. The first word that fails is at the mask's trailing ones.
+// the rest of a page. The first word that fails is past the mask's trailing ones. `past` is a bit of each
+// comparison: a closure in its place would say no more.
 pub fn scan(s: &[u64], n: usize, key: u64, past: bool) -> usize
     requires { (n ≤ length s.now) × (length s.now < 64) }
     ensures { result ≡ leading (up_to key past) (take n s.now) }

@@ -1,5 +1,6 @@
 // The page map: bit b of word w, counted from the lowest, stands for page 64w + b; 1 means taken. Its words are lent,
 // and one is held at a time. The promises hold for any words; `pages` is P.
+// Clauses ask that the words have a bit for each page, and no type says it: they are lent anew for each call.
 #![tactic(auto)]
 
 ghost use Rattle.std.specs.Prelude.{◌≡◌, ◌+◌, ◌*◌, ◌≤◌, min, eqb, length};
@@ -40,7 +41,7 @@ pub fn free(map: &mut [u64], page: usize)
     }
 }
 
-// The lowest free page: the first word that is not full has it past its trailing ones.
+// The lowest free page: the first word that is not full has it at its lowest 0.
 pub fn lowest_free(map: &[u64], pages: usize) -> Option<usize>
     requires { (length map.now ≤ most_words) × (pages ≤ 64 * length map.now) }
     ensures { result ≡ lowest_of (free_in map.now pages) }

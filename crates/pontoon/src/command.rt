@@ -3,7 +3,7 @@
 use crate::kind::Kind;
 use crate::size::Size;
 use crate::usage::Verb;
-use crate::words::{Words, number_of};
+use crate::words::Words;
 use page::Entry;
 use std::error::Error;
 use std::fmt;
@@ -50,13 +50,14 @@ pub enum Gap {
     Upper(Bound<u64>),
 }
 
-// The kind of a bound by the library's numbers, and its tick.
-pub fn numbers(bound: Bound<u64>) -> (u64, u64) {
-    match bound {
+// A bound as the library's calls take it, by its kind's number and its key.
+pub fn by_number(bound: Bound<u64>) -> map::bound::Bound {
+    let (kind, key) = match bound {
         Bound::Included(tick) => (0, tick),
         Bound::Excluded(tick) => (1, tick),
         Bound::Unbounded => (2, 0),
-    }
+    };
+    map::bound::Bound { kind, key }
 }
 
 // What is wrong with a word.
@@ -109,7 +110,7 @@ fn bad(words: Words<'_>, i: usize, wrong: Wrong) -> BadWord<'_> {
 
 // The number that word `i` has to be.
 fn number(words: Words<'_>, i: usize) -> Result<u64, BadWord<'_>> {
-    number_of(words.word(i)).ok_or(bad(words, i, Wrong::NotANumber))
+    table::number(words.word(i)).ok_or(bad(words, i, Wrong::NotANumber))
 }
 
 // The number that word `i` has to be, where it is given.

@@ -37,7 +37,8 @@ fn words_of(text: &str) -> &str {
     }
 }
 
-// What the system says of a file, of the call that failed.
+// What the system says of a file, of the call that failed. The text goes into an array and no `String`, which could
+// want memory.
 pub fn file(err: &impl Print, path: &[u8], error: io::Error) {
     let mut text = io::Cursor::new([0u8; 256]);
     let _ = write!(text, "{error}");

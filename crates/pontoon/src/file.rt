@@ -1,5 +1,6 @@
 // A command on a pool that a file keeps: the file is loaded, the command runs in memory, and where it changed the pool
 // the file is replaced before the command says so. Make and copy write a new file, never over one that is there.
+// `rt` and `err` stay two parameters: they are handles of two types, and a struct would be generic over both.
 use crate::command::Command;
 use crate::reply::Reply;
 use crate::run::run;
@@ -10,7 +11,7 @@ use std::rt::Files;
 
 // ---- what a command leaves
 
-// The pool into a file of a name that no file has; whether that was done.
+// The pool into a file of a name that no file has; whether that was done; if not, it is complained of already.
 fn store_new(rt: &impl Files, err: &impl Print, path: &[u8], pool: &[u64]) -> bool {
     if let Err(error) = store::create(rt, path) {
         let text = "exists already: a new pool goes into a new file";

@@ -1,6 +1,6 @@
 // The words of a pool, and the commands that print entries, a line each: list, and scrub, which opens the cursor and
 // closes it by itself. They go on only with the entry that an answer carries.
-use crate::command::numbers;
+use crate::command::by_number;
 use crate::kind::Kind;
 use crate::reply::{Line, Reply, Stop};
 use map::refusal::Refusal;
@@ -12,22 +12,17 @@ use std::ops::Bound;
 // The head's word 1: how many pages there are.
 pub const PAGES: usize = 1;
 
-// A word of a pool; 0 past the end.
-pub fn word(pool: &[u64], i: usize) -> u64 {
-    pool.get(i).copied().unwrap_or(0)
-}
-
 // ---- list
 
 // The first entry between two bounds, by the list of a pool of its own kind; a set has no places.
 fn first(pool: &[u64], from: Bound<u64>, to: Bound<u64>) -> Result<Option<Entry>, Refusal> {
-    let (lower, from) = numbers(from);
-    let (upper, to) = numbers(to);
+    let lower = by_number(from);
+    let upper = by_number(to);
     let mut ticks = [0];
     let mut places = [0];
     let n = match Kind::of(pool) {
-        Kind::Map => map::list::entries(pool, lower, from, upper, to, &mut ticks, &mut places)?,
-        Kind::Set => map::set::list(pool, lower, from, upper, to, &mut ticks)?,
+        Kind::Map => map::list::entries(pool, lower, upper, &mut ticks, &mut places)?,
+        Kind::Set => map::set::list(pool, lower, upper, &mut ticks)?,
     };
     if n == 0 {
         return Ok(None);
@@ -78,8 +73,7 @@ fn steps(rt: &impl Print, pool: &mut [u64], most: u64) -> Result<Reply, Stop> {
 
 // Steps from the lower bound of a tick, included.
 pub fn scrub(rt: &impl Print, pool: &mut [u64], tick: u64, most: u64) -> Result<Reply, Stop> {
-    let (kind, tick) = numbers(Bound::Included(tick));
-    cursor::opening::lower(pool, kind, tick)?;
+    cursor::opening::lower(pool, by_number(Bound::Included(tick)))?;
     let last = steps(rt, pool, most);
     // It is open, so it is closed and nothing refused.
     let _ = cursor::close(pool);

@@ -1,4 +1,5 @@
-// What a command comes to, and the line that says it.
+// What a command comes to, and the line that says it; and what ends a command before it comes to one. By its reply a
+// command makes a new file, replaces the one that is there, or leaves it.
 use crate::kind::Kind;
 use map::refusal;
 use map::refusal::Refusal;
@@ -9,6 +10,7 @@ use std::{fmt, io};
 pub enum Reply {
     // All is said already.
     Told,
+    // One of them, and no `Result` around the others: it is printed as they are, on standard output.
     Refused(Refusal),
     Made(Kind, u64),
     Copied,
@@ -105,6 +107,7 @@ impl fmt::Display for Line {
     }
 }
 
+// Why a call refused, in the command's words; the library has only the number.
 fn reason(why: Refusal) -> &'static str {
     match why {
         Refusal::Unfit => "no pool, by its length or its head",

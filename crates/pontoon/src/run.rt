@@ -1,17 +1,19 @@
 // A command on a pool in memory: the same for a pool that a file keeps and for the sample's. What takes a map and a
 // set goes by the pool's kind. A refused call has changed no word.
-use crate::command::{Command, Gap, numbers};
+use crate::command::{Command, Gap, by_number};
 use crate::kind::Kind;
-use crate::look::{PAGES, word};
+use crate::look::PAGES;
 use crate::reply::{Reply, Stop};
 use crate::{look, show, stats};
+use cursor::{edit, opening};
 use map::refusal::Refusal;
 use std::io;
+use table::word_at;
 
 // A new pool, of as many pages as there are words for.
 fn make(pool: &mut [u64], kind: Kind) -> Result<Reply, Refusal> {
-    map::pool::make(pool, kind.number())?;
-    Ok(Reply::Made(kind, word(pool, PAGES)))
+    map::pool::make(pool, kind.into())?;
+    Ok(Reply::Made(kind, word_at(pool, PAGES)))
 }
 
 // A place is for a map; a set is given none.
@@ -53,27 +55,19 @@ fn get(pool: &[u64], tick: u64) -> Result<Reply, Refusal> {
 // The cursor, which stays open from one command to the next: its gap is kept in the pool's head.
 fn open(pool: &mut [u64], gap: Gap) -> Result<Reply, Refusal> {
     let read = match gap {
-        Gap::Lower(bound) => {
-            let (kind, tick) = numbers(bound);
-            cursor::opening::lower(pool, kind, tick)?
-        }
-        Gap::Upper(bound) => {
-            let (kind, tick) = numbers(bound);
-            cursor::opening::upper(pool, kind, tick)?
-        }
+        Gap::Lower(bound) => opening::lower(pool, by_number(bound))?,
+        Gap::Upper(bound) => opening::upper(pool, by_number(bound))?,
     };
     Ok(Reply::Opened(read))
 }
 
+// What a command comes to, where no call refuses.
 fn ask(rt: &impl Print, pool: &mut [u64], command: Command<'_>) -> Result<Reply, Stop> {
     Ok(match command {
         // These are not for one pool in memory.
         Command::Help | Command::Sample | Command::Copy(_) => Reply::Told,
         Command::Make { kind, .. } => make(pool, kind)?,
-        Command::Clear => {
-            map::pool::clear(pool)?;
-            Reply::Cleared
-        }
+        Command::Clear => map::pool::clear(pool).map(|()| Reply::Cleared)?,
         Command::Check if map::pool::check(pool) => Reply::Sound,
         Command::Check => Reply::NotSound,
         Command::Show => show::show(rt, pool)?,
@@ -97,16 +91,10 @@ fn ask(rt: &impl Print, pool: &mut [u64], command: Command<'_>) -> Result<Reply,
             cursor::write_prev(pool, place)?.map_or(Reply::Start, Reply::Before)
         }
         Command::InsertAfter(e) => {
-            cursor::edit::insert_after(pool, e.key, e.value)?;
-            Reply::New
+            edit::insert_after(pool, e.key, e.value).map(|()| Reply::New)?
         }
-        Command::RemoveNext => {
-            cursor::edit::remove_next(pool)?.map_or(Reply::End, Reply::RemovedEntry)
-        }
-        Command::Close => {
-            cursor::close(pool)?;
-            Reply::Closed
-        }
+        Command::RemoveNext => edit::remove_next(pool)?.map_or(Reply::End, Reply::RemovedEntry),
+        Command::Close => cursor::close(pool).map(|()| Reply::Closed)?,
         Command::Scrub { tick, steps } => look::scrub(rt, pool, tick, steps)?,
     })
 }

@@ -12,8 +12,8 @@ const SAMPLE: usize = FIRST_PAGE + 6 * PAGE_WORDS;
 
 const TINY: usize = FIRST_PAGE + PAGE_WORDS;
 
-// The commands, a line each. After a dot stands one that is not shown: it has to say that its tick is new. A line in brackets is a
-// remark.
+// The commands, a line each. After a dot stands one that is not shown: it has to say that its tick is new. A line in
+// brackets is a remark.
 const SCRIPT: &str = " make sample 6
  insert sample 1000 0
 . insert sample 1041 1

@@ -1,17 +1,19 @@
 // The tree as a picture in text: a line a page, from the root down, a level deeper for each indent; then the free
-// pages. The walk follows children with one level less at each step.
-ghost use Rattle.std.specs.Prelude.{◌≡◌, ◌<◌, ◌≤◌, true, IfOk};
+// pages. The walk follows children with one level less at each step. What clauses ask of the pool no type says: see the
+// crate lend, src/lib.rt.
+ghost use Rattle.std.specs.Prelude.{◌≡◌, ◌<◌, ◌≤◌, ◌↔◌, true, IfOk, IsTrue};
 ghost use Rattle.model.specs.Head.{headed};
+ghost use Rattle.model.specs.Layout.{today, most_levels, most_pages};
 ghost use Rattle.lend.specs.Pages.{most, Inside};
 ghost use Rattle.lend.specs.Touches.{Sized};
 
-use crate::look::word;
 use crate::reply::{Reply, Stop, plural};
 use crate::stats;
 use lend::{bits, pages};
 use map::refusal::Refusal;
 use model::{FIRST_PAGE, HEAD_WORDS, MOST, MOST_PAGES, ROOT};
 use std::io;
+use table::word_at;
 use tree::search;
 
 // The most pages that have a line; of more there is only the number.
@@ -20,12 +22,16 @@ const LINES: usize = 64;
 // ---- a line
 
 // What a page is shown by: its number, a bar of nine slots, and its first and last tick; a level deeper for each
-// indent.
-fn page(rt: &impl Print, pool: &[u64], p: usize, n: usize, deep: usize) -> io::Result<()>
+// indent. How many entries it has.
+fn line(rt: &impl Print, pool: &[u64], p: usize, deep: usize) -> io::Result<usize>
     requires inside { Inside p pool.now }
-    requires filled { (0 < n) × (n ≤ most) }
-    requires deep { deep < 6 }
+    requires deep { deep < most_levels today }
+    ensures { IfOk result (λ n. n ≤ most) }
 {
+    let n = pages::count(pool, p);
+    if n == 0 || MOST < n {
+        return Ok(0);
+    }
     let first = pages::entry_at(pool, p, 0).key;
     let last = pages::entry_at(pool, p, n - 1).key;
     let indent = 2 * deep;
@@ -33,33 +39,16 @@ fn page(rt: &impl Print, pool: &[u64], p: usize, n: usize, deep: usize) -> io::R
     println!(rt;
         "{:indent$}page {p} [{:#<n$}{:-<free$}] {n} of {MOST}, ticks {first} to {last}",
         "", "", ""
-    )
-}
-
-// The line of page `p`, of height `h` under a root's; how many entries the page has. A number that is no page's has no
-// line.
-fn line(rt: &impl Print, pool: &[u64], p: usize, h: usize, root: usize) -> io::Result<usize>
-    ensures { IfOk result (λ n. n ≤ most) }
-{
-    if MOST_PAGES <= p || pool.len() < model::first_word(p + 1) {
-        return Ok(0);
-    }
-    let n = pages::count(pool, p);
-    if n == 0 || MOST < n {
-        return Ok(0);
-    }
-    page(rt, pool, p, n, root.saturating_sub(h).min(5))?;
+    )?;
     Ok(n)
 }
 
 // ---- the tree
 
-// Child `i` of page `p`; where there is none, a number that is no page's.
-fn child(pool: &[u64], p: usize, i: usize) -> usize {
-    if MOST_PAGES <= p || pool.len() < model::first_word(p + 1) {
-        return MOST_PAGES;
-    }
-    search::child(pool, p, i).unwrap_or(MOST_PAGES)
+fn is_inside(pool: &[u64], p: usize) -> bool
+    ensures { IsTrue result ↔ (p < most_pages today) × Inside p pool.now }
+{
+    p < MOST_PAGES && model::first_word(p + 1) <= pool.len()
 }
 
 // Page `p` of height `h` and all below it, where `shown` pages have a line already; how many have one then.
@@ -70,17 +59,21 @@ fn picture(
     h: usize,
     root: usize,
     shown: usize,
-) -> io::Result<usize> {
-    if LINES <= shown {
+) -> io::Result<usize>
+    requires { root < most_levels today }
+{
+    if LINES <= shown || !is_inside(pool, p) {
         return Ok(shown);
     }
-    let n = line(rt, pool, p, h, root)?;
+    let n = line(rt, pool, p, root.saturating_sub(h))?;
     let mut lines = shown + 1;
     if h == 0 {
         return Ok(lines);
     }
-    for i in 0..n + 1 {
-        lines = picture(rt, pool, child(pool, p, i), h - 1, root, lines)?;
+    for at in 0..n + 1 {
+        if let Ok(c) = search::child(pool, p, at) {
+            lines = picture(rt, pool, c, h - 1, root, lines)?;
+        }
     }
     Ok(lines)
 }
@@ -90,11 +83,8 @@ fn tree(rt: &impl Print, pool: &[u64]) -> io::Result<usize>
     requires { headed pool.now ≡ true }
 {
     let levels = lend::head::levels(pool);
-    let root = word(pool, ROOT) as usize;
-    if levels == 0 {
-        return Ok(0);
-    }
-    if root == 0 {
+    let root = word_at(pool, ROOT) as usize;
+    if levels == 0 || root == 0 {
         return Ok(0);
     }
     picture(rt, pool, root - 1, levels - 1, levels - 1, 0)

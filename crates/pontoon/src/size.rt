@@ -1,4 +1,5 @@
-// How many pages a new pool has: as many as a pool may have, which is tested once.
+// How many pages a new pool has. That a pool may have so many is tested once, where the number is read, and is known
+// of the value from then on.
 ghost use Rattle.std.specs.Prelude.{◌≤◌};
 ghost use Rattle.model.specs.Layout.{today, most_pages};
 
@@ -11,6 +12,7 @@ pub struct Size {
 }
 
 impl Size {
+    // No `TryFrom`: there is one way to be none, and the caller complains of the word.
     pub fn of(pages: u64) -> Option<Size> {
         if 1 <= pages && pages <= MOST_PAGES as u64 {
             Some(Size {

@@ -1,14 +1,16 @@
 // What there is to say of a whole pool: its kind, entries, levels and pages, how full they are, the room left, and
-// where the cursor is. Of a pool that is not sound, what its head says.
+// where the cursor is. Of a pool that is not sound, what its head says. That a head fits a clause asks and no type: see
+// the crate lend, src/lib.rt.
 ghost use Rattle.std.specs.Prelude.{◌≡◌, true};
 ghost use Rattle.model.specs.Head.{headed};
 
 use crate::kind::Kind;
-use crate::look::{PAGES, word};
+use crate::look::PAGES;
 use crate::reply::{Reply, Stop, plural};
 use map::refusal::Refusal;
 use model::{AFTER, COUNT, KEY, LEAST, LEVELS, MOST, OPEN};
 use std::io;
+use table::word_at;
 
 // ---- numbers
 
@@ -21,12 +23,12 @@ fn percent(entries: u64, taken: u64) -> u64 {
 // ---- lines
 
 fn cursor(rt: &impl Print, pool: &[u64]) -> io::Result<()> {
-    if word(pool, OPEN) == 0 {
+    if word_at(pool, OPEN) == 0 {
         rt.println("cursor   closed")
-    } else if word(pool, AFTER) == 0 {
+    } else if word_at(pool, AFTER) == 0 {
         rt.println("cursor   open, at the start")
     } else {
-        println!(rt; "cursor   open, after tick {}", word(pool, KEY))
+        println!(rt; "cursor   open, after tick {}", word_at(pool, KEY))
     }
 }
 
@@ -50,9 +52,9 @@ fn room(rt: &impl Print, entries: u64, pages: u64) -> io::Result<()> {
 pub fn unsound(rt: &impl Print, pool: &[u64]) -> io::Result<()> {
     rt.println("not sound; its head says:")?;
     println!(rt; "kind     {}", Kind::of(pool))?;
-    println!(rt; "entries  {}", word(pool, COUNT))?;
-    println!(rt; "levels   {}", word(pool, LEVELS))?;
-    println!(rt; "pages    {}", word(pool, PAGES))?;
+    println!(rt; "entries  {}", word_at(pool, COUNT))?;
+    println!(rt; "levels   {}", word_at(pool, LEVELS))?;
+    println!(rt; "pages    {}", word_at(pool, PAGES))?;
     cursor(rt, pool)
 }
 
@@ -60,12 +62,12 @@ fn sound(rt: &impl Print, pool: &[u64]) -> io::Result<()>
     requires { headed pool.now ≡ true }
 {
     let taken = lend::bits::taken(pool) as u64;
-    let pages = word(pool, PAGES);
+    let pages = word_at(pool, PAGES);
     let free = pages.saturating_sub(taken);
-    let entries = word(pool, COUNT);
+    let entries = word_at(pool, COUNT);
     println!(rt; "kind     {}", Kind::of(pool))?;
     println!(rt; "entries  {entries}")?;
-    println!(rt; "levels   {}", word(pool, LEVELS))?;
+    println!(rt; "levels   {}", word_at(pool, LEVELS))?;
     println!(rt; "pages    {pages}: {taken} taken, {free} free")?;
     println!(rt;
         "fill     {} percent of a page in the mean",
@@ -75,6 +77,8 @@ fn sound(rt: &impl Print, pool: &[u64]) -> io::Result<()>
     cursor(rt, pool)
 }
 
+// As `show::show`, but for what is said of a sound pool. That asks for a head that fits, so one function for both would
+// be lent it as a closure, clause and all.
 pub fn stats(rt: &impl Print, pool: &[u64]) -> Result<Reply, Stop> {
     if !lend::head::fits(pool) {
         return Err(Stop::Refused(Refusal::Unfit));

@@ -9,7 +9,7 @@ use std::rt::Files;
 use std::{fs, io};
 use table::read_full;
 
-// Words of the largest pool.
+// Words of the largest pool. They stand in an array and no `Vec`, which could want memory.
 pub const WORDS: usize = FIRST_PAGE + PAGE_WORDS * MOST_PAGES;
 
 // Words that are read or written at a time.
@@ -92,8 +92,8 @@ fn read_all(file: &mut impl Read, words: &mut [u64]) -> io::Result<usize> {
     Ok(bytes)
 }
 
-// Whether a file has ended.
-fn is_read(file: &mut impl Read) -> io::Result<bool> {
+// Whether a file has no more bytes.
+fn has_ended(file: &mut impl Read) -> io::Result<bool> {
     Ok(file.read(&mut [0])? == 0)
 }
 
@@ -105,13 +105,16 @@ pub fn load<'a>(
 ) -> Result<&'a mut [u64], LoadError> {
     let mut file = File::open(rt, text_of(path)?)?;
     let bytes = read_all(&mut file, words)?;
-    if !is_read(&mut file)? || bytes % 8 != 0 || !lend::head::allowed(bytes / 8) {
+    if !has_ended(&mut file)? || bytes % 8 != 0 || !lend::head::allowed(bytes / 8) {
         return Err(LoadError::NoPool);
     }
     words.get_mut(..bytes / 8).ok_or(LoadError::NoPool)
 }
 
 // ---- storing
+
+// Whether something was done is a `bool`: what was in the way is complained of at once, where the name of the file
+// beside still stands, and an error would have nothing left to say.
 
 // The name of the file beside it, where there is room for it.
 fn beside<'a>(path: &[u8], room: &'a mut [u8; NAME]) -> Option<&'a [u8]> {
@@ -131,14 +134,6 @@ fn write_some(file: &mut impl Write, words: &[u64]) -> io::Result<()> {
     file.write_all(all[..words.len().min(SOME)].as_flattened())
 }
 
-// All words, on the disk.
-fn flush<F: Write + OpenFile>(file: &mut F, words: &[u64]) -> io::Result<()> {
-    for some in words.chunks(SOME) {
-        write_some(file, some)?;
-    }
-    file.sync_all()
-}
-
 // The new file goes, of which a call failed.
 fn give_up(rt: &impl Files, err: &impl Print, name: &[u8], error: io::Error) -> bool {
     complain::file(err, name, error);
@@ -146,10 +141,12 @@ fn give_up(rt: &impl Files, err: &impl Print, name: &[u8], error: io::Error) -> 
     false
 }
 
-// The words into a new file, which is closed then.
-fn fill<F: Write + OpenFile + Drop>(file: F, words: &[u64]) -> io::Result<()> {
-    let mut file = file;
-    flush(&mut file, words)
+// The words into a new file, on the disk; the file is closed then.
+fn fill<F: Write + OpenFile + Drop>(mut file: F, words: &[u64]) -> io::Result<()> {
+    for some in words.chunks(SOME) {
+        write_some(&mut file, some)?;
+    }
+    file.sync_all()
 }
 
 // A new file with the words, which then takes the name.

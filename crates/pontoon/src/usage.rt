@@ -64,6 +64,7 @@ pub enum Verb {
 }
 
 impl Verb {
+    // No `TryFrom`: there is one way to be none, and the caller complains of the word.
     pub fn of(name: &[u8]) -> Option<Verb> {
         Some(match name {
             b"sample" => Verb::Sample,

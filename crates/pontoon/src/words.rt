@@ -1,5 +1,5 @@
-// The words of a command: the program's arguments in one line of bytes, for a file's name need not be text, and what
-// stands in such a line. And numbers by their figures.
+// The words of a command: the program's arguments in one line of bytes, for an argument need not be text, and what
+// stands in such a line.
 use std::env::{Env, FillError};
 
 // Bytes of the longest line: two names of files and some numbers. What does not fit is complained of, so the line is
@@ -8,7 +8,7 @@ pub const LINE: usize = 12288;
 
 // ---- a line from the program's arguments
 
-// How many arguments there are, the program's own name among them.
+// How many arguments there are, the program's own name among them. Not by `args`, which could want memory.
 fn arg_count(rt: &impl Env) -> usize {
     let mut first = [0u8; 1];
     for i in 0..usize::MAX {
@@ -70,14 +70,4 @@ impl<'a> Words<'a> {
     pub fn word(self, i: usize) -> &'a [u8] {
         self.get(i).unwrap_or_default()
     }
-}
-
-// ---- numbers
-
-// A word as a number, where it is one from 0 to 2^64 - 1. It begins with a figure, for `parse` takes a plus sign too.
-pub fn number_of(word: &[u8]) -> Option<u64> {
-    if !word.first()?.is_ascii_digit() {
-        return None;
-    }
-    str::from_utf8(word).ok()?.parse().ok()
 }

@@ -1,5 +1,5 @@
 // Our answers in the list's words, and whether a line tells the same. A refusal, or a line that is not understood, is
-// never the same.
+// never the same. `Wrong` is one of these and no error: it ends nothing, and is counted like any answer.
 use crate::text::{cut, is_end, past, word};
 
 #[derive(Drop)]
@@ -16,7 +16,7 @@ pub enum Ours {
     Misplaced,
     // How many entries a list has, and then each of its numbers.
     Listed(Vec<u64>),
-    // A refusal, or a line that is not understood.
+    // A refusal, or a line that is not understood. One of them, since it is held against the list as they are.
     Wrong,
 }
 
@@ -42,14 +42,10 @@ fn is_last(answer: &[u8], last: &[u8]) -> bool {
 
 // Whether the numbers stand there, and then the line ends.
 fn are_told(answer: &[u8], numbers: &[u64]) -> bool {
-    let mut rest = answer;
-    for n in numbers {
-        match past(rest, *n) {
-            Some(after) => rest = after,
-            None => return false,
-        }
-    }
-    is_end(rest)
+    numbers
+        .iter()
+        .try_fold(answer, |rest, n| past(rest, *n))
+        .is_some_and(is_end)
 }
 
 impl Ours {

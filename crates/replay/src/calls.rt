@@ -2,6 +2,7 @@
 // number a set has its own.
 use crate::answer::Ours;
 use crate::lists::{self, Bounds};
+use map::bound::Bound;
 use map::refusal::{MAP, Refusal};
 use model::KIND;
 use std::alloc::{AllocError, Global};
@@ -65,8 +66,8 @@ fn given_two(pool: &mut [u64], name: &[u8], a: u64, b: u64) -> Result<Ours, Refu
         b"insert" => map::insert(pool, a, b).map(Ours::from),
         b"replace" => map::replace(pool, a, b).map(Ours::from),
         b"insert-after" => insert_after(pool, a, b),
-        b"lower" => cursor::opening::lower(pool, a, b).map(|_| Ours::Done),
-        b"upper" => cursor::opening::upper(pool, a, b).map(|_| Ours::Done),
+        b"lower" => cursor::opening::lower(pool, Bound { kind: a, key: b }).map(|_| Ours::Done),
+        b"upper" => cursor::opening::upper(pool, Bound { kind: a, key: b }).map(|_| Ours::Done),
         _ => Ok(Ours::Wrong),
     }
 }
@@ -96,10 +97,14 @@ pub fn call(
         [a, b] => given_two(pool, name, *a, *b),
         [lower, from, upper, to] => {
             let bounds = Bounds {
-                lower: *lower,
-                from: *from,
-                upper: *upper,
-                to: *to,
+                lower: Bound {
+                    kind: *lower,
+                    key: *from,
+                },
+                upper: Bound {
+                    kind: *upper,
+                    key: *to,
+                },
             };
             return given_bounds(alloc, pool, name, bounds);
         }

@@ -1,7 +1,8 @@
 // A line of the list: its call's name, the numbers that the call is given, and std's answer with what is left of the
 // list. A bound's kind is the number that the library's calls take, and Unbounded has 0 for its key.
-use crate::text::{cut, is_end, number, word};
+use crate::text::{cut, is_end, word};
 use std::alloc::{AllocError, Global};
+use table::number;
 
 // Words before the colon: no call is given more.
 const MOST: u8 = 4;

@@ -1,19 +1,18 @@
 // Lists: how many entries there are between two bounds, and each. A map's list is of pairs, of keys or of values; a
 // set's is of keys.
 use crate::answer::Ours;
+use map::bound::Bound;
 use map::refusal::Refusal;
 use std::alloc::{AllocError, Global};
 
-// Words of a column: no list of std's is so long.
+// Words of a column: no list of std's is so long. Keys and values have a column each, as the calls write them.
 const ROOM: usize = 1024;
 
-// Two bounds: their kinds, in the library's numbers, and their keys.
+// Two bounds, as the library's calls take them.
 #[derive(Clone, Copy)]
 pub struct Bounds {
-    pub lower: u64,
-    pub from: u64,
-    pub upper: u64,
-    pub to: u64,
+    pub lower: Bound,
+    pub upper: Bound,
 }
 
 // As many words of a column as the list wrote.
@@ -26,9 +25,7 @@ fn column(
         return Ok(Ours::Wrong);
     };
     let mut numbers = vec![in alloc; n as u64]?;
-    for word in words.iter().take(n) {
-        numbers.push(*word)?;
-    }
+    numbers.extend_from_slice(words.get(..n).unwrap_or(words))?;
     Ok(Ours::Listed(numbers))
 }
 
@@ -52,24 +49,24 @@ fn pairs(
 pub fn entries(alloc: Global, pool: &[u64], b: Bounds) -> Result<Ours, AllocError> {
     let mut keys = [0u64; ROOM];
     let mut values = [0u64; ROOM];
-    let answer = map::list::entries(pool, b.lower, b.from, b.upper, b.to, &mut keys, &mut values);
+    let answer = map::list::entries(pool, b.lower, b.upper, &mut keys, &mut values);
     pairs(alloc, answer, &keys, &values)
 }
 
 pub fn keys(alloc: Global, pool: &[u64], b: Bounds) -> Result<Ours, AllocError> {
     let mut keys = [0u64; ROOM];
-    let answer = map::list::keys(pool, b.lower, b.from, b.upper, b.to, &mut keys);
+    let answer = map::list::keys(pool, b.lower, b.upper, &mut keys);
     column(alloc, answer, &keys)
 }
 
 pub fn values(alloc: Global, pool: &[u64], b: Bounds) -> Result<Ours, AllocError> {
     let mut values = [0u64; ROOM];
-    let answer = map::list::values(pool, b.lower, b.from, b.upper, b.to, &mut values);
+    let answer = map::list::values(pool, b.lower, b.upper, &mut values);
     column(alloc, answer, &values)
 }
 
 pub fn set_keys(alloc: Global, pool: &[u64], b: Bounds) -> Result<Ours, AllocError> {
     let mut keys = [0u64; ROOM];
-    let answer = map::set::list(pool, b.lower, b.from, b.upper, b.to, &mut keys);
+    let answer = map::set::list(pool, b.lower, b.upper, &mut keys);
     column(alloc, answer, &keys)
 }

@@ -18,7 +18,8 @@ use std::alloc::{AllocError, Global};
 use std::io;
 use table::UNTOUCHED;
 
-// Bytes of the longest list, and words of the pool.
+// Bytes of the longest list, and words of the pool. The bytes are an array and no `Vec`: what is longer is cut off, and
+// reading can't want memory.
 const MOST: usize = 163840;
 
 const WORDS: usize = 8192;
@@ -66,7 +67,8 @@ fn replay_line<'a>(
     }
 }
 
-// Every line.
+// Every line. Not by `lines` or `split`: a line is read from its start to the end of the text, since a word may stand
+// on the line after.
 fn replay(rt: &(impl Alloc<A = Global> + Print), text: &[u8]) -> io::Result<()> {
     let mut pool = [UNTOUCHED; WORDS];
     let mut tally = Tally::new(rt.alloc());

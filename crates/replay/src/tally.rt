@@ -32,6 +32,7 @@ struct Row<'a> {
 }
 
 impl Row<'_> {
+    // No `Display`: a name is bytes as they stand in the list, which need not be text.
     fn write(self, rt: &impl Print) -> io::Result<()> {
         rt.write_all(b"  ")?;
         rt.write_all(self.name)?;

@@ -1,6 +1,6 @@
 // The list's text. A word ends at a space, at a line's end or at a byte 0, and what is left of a text is the end of it:
 // a word may stand on the line after.
-use std::str;
+use table::number;
 
 // The word that a text begins with.
 pub fn word(text: &[u8]) -> &[u8] {
@@ -26,14 +26,6 @@ pub fn cut(text: &[u8]) -> (&[u8], &[u8]) {
 // Whether a text begins with a line's end.
 pub fn is_end(text: &[u8]) -> bool {
     text.first() == Some(&b'\n')
-}
-
-// The number that a word is: of figures alone, for `parse` takes a sign too.
-pub fn number(word: &[u8]) -> Option<u64> {
-    if !word.iter().all(|b| b.is_ascii_digit()) {
-        return None;
-    }
-    str::from_utf8(word).ok()?.parse().ok()
 }
 
 // What is left of a text after a number, where that is the next word.

@@ -1,5 +1,5 @@
 // What the programs share. The table: a place for every key, an ordered map by itself, for its places are in key order.
-// Numbers at random (`random`), and input read into bytes that are there.
+// Numbers at random (`random`), numbers in words, and input read into bytes that are there.
 #![tactic(auto)]
 
 ghost use Rattle.std.specs.Prelude.{◌≡◌, ◌<◌, ◌≤◌, length, IfOk, IfSome};
@@ -24,6 +24,14 @@ pub fn key_of(place: usize) -> u64 {
 // The word at a place; 0 past the end.
 pub fn word_at(words: &[u64], place: usize) -> u64 {
     words.get(place).copied().unwrap_or_default()
+}
+
+// The number that a word is, from 0 to 2^64 - 1: of figures alone, for `parse` takes a plus sign too.
+pub fn number(word: &[u8]) -> Option<u64> {
+    if !word.iter().all(|b| b.is_ascii_digit()) {
+        return None;
+    }
+    str::from_utf8(word).ok()?.parse().ok()
 }
 
 // A place of the table that has an entry, and the value there.
@@ -113,7 +121,7 @@ impl Table {
 }
 
 // Fills the bytes from their start, until they are full or the input ends; how many it filled. A read may give fewer
-// bytes than there is room for.
+// bytes than there is room for, and it alone says where the next one goes on: no iterator knows that.
 pub fn read_full(input: &mut impl Read, bytes: &mut [u8]) -> io::Result<usize>
     ensures { IfOk result (λ n. n ≤ length bytes.new) }
 {

@@ -2,6 +2,7 @@
 pub mod Saying
 pub mod Sitting
 pub mod Paths
+pub mod Backward
 pub mod Searching
 pub mod Seeking
 pub mod Heirs

@@ -1,20 +1,22 @@
 -- The path of a gap as it is lent: its front, what stands from a place on, and what is behind its first place. The
 -- first page is the root's, and the rest is the path in the child.
 -- Assumes nothing.
-use mathlib.Core.Path.{◌≡◌, ap, ◌∙◌, refl}
-use mathlib.Core.List.{List, ◌∷◌, [], ◌++◌, append-nil}
+use mathlib.Core.Path.{◌≡◌, ap, ap₂, sym, ◌∙◌, refl}
+use mathlib.Core.List.{List, ◌∷◌, [], ◌++◌, map, append-nil, map-append}
 use Prim.Native.Nat.{ℕ, zero, suc, ◌+◌, ◌-◌, ◌≤◌, ◌<◌}
 use native.Mathlib.Omega.{arith}
-use lib.ListN.{length, take, drop, get_or, length-take, length-drop, set, length-set, take-append-drop}
-use lib.Seq.{take_all, drop-length, take-length, drop-drop, get_or-drop}
+use lib.ListN.{length, take, drop, get_or, length-drop, length-map, set, take-append-drop}
+use lib.Seq.{take_all, drop-length, take-length, drop-drop, get_or-drop, map-set}
 use Rattle.model.specs.Tree.{Tree}
 use Rattle.model.specs.Standing.{page_number}
 use Rattle.model.specs.Gap.{slot_at, rest_at, child_at}
 use Rattle.model.specs.Path.{gap_pages, gap_slots}
 use Rattle.page.specs.Runs.{part, with_run}
 use Rattle.lend.specs.Pages.{most, Inside}
-use Rattle.tree.specs.Sits.{PathIn, PathOf}
+use Rattle.tree.specs.declared.steps.Spot.{Spot}
+use Rattle.tree.specs.Sits.{PathIn, PathOf, pages_of, slots_of}
 use Rattle.model.proofs.Basics.{all-at, all_drop}
+use Rattle.std.proofs.lemmas.List.{get_or-map, take-map, drop-map}
 
 module _ {A : Type 0} where
   -- from place i on, as it is lent
@@ -51,9 +53,6 @@ module _ {A : Type 0} where
   pub behind-back : (x : A) (l ys : List A) → behind_back (x ∷ l) ys ≡ x ∷ ys
   behind-back x l ys = let e : suc (length l) - 1 ≡ length l = omega arith in rw (e, drop-length l, append-nil)
 
-  pub behind-long : (l : List A) → length (behind l) ≡ length l - 1
-  behind-long l = simp (length-take, length-drop) (omega arith)
-
   -- from place i on is behind what is from place i - 1 on
   pub behind-next : (l : List A) (i : ℕ) → behind (drop i l) ≡ drop (suc i) l
   behind-next l i = let e : i + 1 ≡ suc i = omega arith in from-drop 1 (drop i l) ∙ drop-drop 1 i l ∙ ap (λ (k : ℕ). drop k l) e
@@ -68,8 +67,81 @@ module _ {A : Type 0} where
   no_length [] e = refl
   no_length (x ∷ l) e = absurd (omega arith)
 
-pub behind-even : (x : ℕ) (ps ss : List ℕ) → length ps ≡ length ss → length (behind ps) ≡ length (behind (set ss 0 x))
-behind-even x ps ss e = simp (length-take, length-drop, length-set) (omega arith)
+-- ---- the pages and the slots of a path, a spot a level
+
+module _ {B : Type 0} (f : Spot → B) where
+  from-map : (i : ℕ) (path : List Spot) → map f (from i path) ≡ from i (map f path)
+  from-map i path = ap (map f) (from-drop i path) ∙ sym (drop-map f i path) ∙ sym (from-drop i (map f path))
+
+  back-map : (i : ℕ) (path ys : List Spot) → map f (from_back i path ys) ≡ from_back i (map f path) (map f ys)
+  back-map i path ys =
+      ap (map f) (from_back_lem i path ys) ∙ map-append f (take i path) ys ∙ ap (λ (l : List B). l ++ map f ys) (sym (take-map f i path))
+      ∙ sym (from_back_lem i (map f path) (map f ys))
+
+pub pages-long : (path : List Spot) → length (pages_of path) ≡ length path
+pages-long path = length-map path (λ (x : Spot). x.page)
+
+pub slots-long : (path : List Spot) → length (slots_of path) ≡ length path
+slots-long path = length-map path (λ (x : Spot). x.slot)
+
+-- there are as many of both
+pub path-even : (path : List Spot) → length (pages_of path) ≡ length (slots_of path)
+path-even path = pages-long path ∙ sym (slots-long path)
+
+pub page-of : (path : List Spot) (i : ℕ) (d : Spot) → i < length path → get_or (pages_of path) i 0 ≡ (get_or path i d).page
+page-of path i d l = get_or-map (λ (x : Spot). x.page) path i d 0 l
+
+pub slot-of : (path : List Spot) (i : ℕ) (d : Spot) → i < length path → get_or (slots_of path) i 0 ≡ (get_or path i d).slot
+slot-of path i d l = get_or-map (λ (x : Spot). x.slot) path i d 0 l
+
+pub pages-set : (path : List Spot) (i : ℕ) (x : Spot) → pages_of (set path i x) ≡ set (pages_of path) i x.page
+pages-set path i x = map-set (λ (x : Spot). x.page) path i x
+
+pub slots-set : (path : List Spot) (i : ℕ) (x : Spot) → slots_of (set path i x) ≡ set (slots_of path) i x.slot
+slots-set path i x = map-set (λ (x : Spot). x.slot) path i x
+
+pub pages-take : (i : ℕ) (path : List Spot) → pages_of (take i path) ≡ take i (pages_of path)
+pages-take i path = sym (take-map (λ (x : Spot). x.page) i path)
+
+pub slots-take : (i : ℕ) (path : List Spot) → slots_of (take i path) ≡ take i (slots_of path)
+slots-take i path = sym (take-map (λ (x : Spot). x.slot) i path)
+
+pub pages-drop : (i : ℕ) (path : List Spot) → pages_of (drop i path) ≡ drop i (pages_of path)
+pages-drop i path = sym (drop-map (λ (x : Spot). x.page) i path)
+
+pub slots-drop : (i : ℕ) (path : List Spot) → slots_of (drop i path) ≡ drop i (slots_of path)
+slots-drop i path = sym (drop-map (λ (x : Spot). x.slot) i path)
+
+-- from place i on, as it is lent and as it comes back
+pub pages-from : (i : ℕ) (path : List Spot) → pages_of (from i path) ≡ from i (pages_of path)
+pages-from i path = from-map (λ (x : Spot). x.page) i path
+
+pub slots-from : (i : ℕ) (path : List Spot) → slots_of (from i path) ≡ from i (slots_of path)
+slots-from i path = from-map (λ (x : Spot). x.slot) i path
+
+-- which is its end
+pub pages-rest : (i : ℕ) (path : List Spot) → pages_of (from i path) ≡ drop i (pages_of path)
+pages-rest i path = pages-from i path ∙ from-drop i (pages_of path)
+
+pub slots-rest : (i : ℕ) (path : List Spot) → slots_of (from i path) ≡ drop i (slots_of path)
+slots-rest i path = slots-from i path ∙ from-drop i (slots_of path)
+
+pub pages-back : (i : ℕ) (path ys : List Spot) → pages_of (from_back i path ys) ≡ from_back i (pages_of path) (pages_of ys)
+pages-back i path ys = back-map (λ (x : Spot). x.page) i path ys
+
+pub slots-back : (i : ℕ) (path ys : List Spot) → slots_of (from_back i path ys) ≡ from_back i (slots_of path) (slots_of ys)
+slots-back i path ys = back-map (λ (x : Spot). x.slot) i path ys
+
+-- a path is its pages and its slots
+pub same-path : (a b : List Spot) → pages_of a ≡ pages_of b → slots_of a ≡ slots_of b → a ≡ b
+same-path [] [] e f = refl
+same-path [] (y ∷ b) e f = absurd (omega (arith, ap length e))
+same-path (x ∷ a) [] e f = absurd (omega (arith, ap length e))
+same-path (x ∷ a) (y ∷ b) e f =
+    let page : x.page ≡ y.page = ap (λ (l : List ℕ). get_or l 0 0) e in
+    let slot : x.slot ≡ y.slot = ap (λ (l : List ℕ). get_or l 0 0) f in
+    let first : x ≡ y = ap₂ (λ (p s : ℕ). record { page = p; slot = s }) page slot in
+    ap₂ (λ (z : Spot) (l : List Spot). z ∷ l) first (same-path a b (ap (drop 1) e) (ap (drop 1) f))
 
 -- ---- pages inside the pool, and slots
 
@@ -84,8 +156,13 @@ module _ (w ps ss : List ℕ) (path : PathIn w ps ss) where
     slots = all_drop (λ s. s ≤ most) i ss path.slots;
   })
 
-  pub behind-inside : PathIn w (behind ps) (behind ss)
-  behind-inside = path-from 1
+pub path-rest : (w : List ℕ) (path : List Spot) → PathIn w (pages_of path) (slots_of path) → (i : ℕ) → PathIn w (pages_of (from i path)) (slots_of (from i path))
+path-rest w path q i = rw (pages-from i path, slots-from i path) (path-from w (pages_of path) (slots_of path) q i)
+
+pub spot-at : (w : List ℕ) (path : List Spot) → PathIn w (pages_of path) (slots_of path) → (i : ℕ) (d : Spot) → i < length path
+    → Inside (get_or path i d).page w × ((get_or path i d).slot ≤ most)
+spot-at w path inside i d b =
+    rw (← page-of path i d b, ← slot-of path i d b) (path-at w (pages_of path) (slots_of path) inside i (omega (arith, pages-long path)))
 
 -- ---- of a tree's gap
 

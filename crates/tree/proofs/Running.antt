@@ -8,7 +8,7 @@ use mathlib.Core.List.{List, [], ◌∷◌, ◌++◌}
 use Prim.Native.Nat.{ℕ, zero, suc, ◌+◌, ◌-◌, ◌≤◌, ◌<◌}
 use native.Mathlib.Omega.{arith}
 use lib.Dec.{eqb}
-use lib.ListN.{length, take, get_or, length-append}
+use lib.ListN.{length, take, length-append}
 use lib.Seq.{take_all, take-suc}
 use borrow.Author.Tests.{le-leb, lt-leb, eq-eqb, ne_eqb}
 use Rattle.model.specs.Layout.{most_entries}
@@ -18,12 +18,15 @@ use Rattle.model.specs.Gap.{rest_at, child_at}
 use Rattle.model.specs.Path.{gap_pages}
 use Rattle.model.specs.Insert.{onward, run, needed}
 use Rattle.lend.specs.Pages.{least, most, page_in}
-use Rattle.tree.specs.Sits.{Sits}
+use Rattle.tree.specs.declared.steps.Spot.{Spot}
+use Rattle.tree.specs.Sits.{Sits, pages_of}
 use Rattle.tree.specs.Insert.{run_on, Needs}
 use Rattle.model.proofs.Cases.{either-le, either-eq}
 use Rattle.model.proofs.Search.{path-long}
 use Rattle.model.proofs.Insert.{either-onward}
 use Rattle.tree.proofs.Saying.{root-count}
+use Rattle.tree.proofs.Paths.{pages-long}
+use Rattle.tree.proofs.Backward.{Turn}
 use Rattle.tree.proofs.Sitting.{sits-child, sits-slot, sits-rest}
 
 -- ---- along a path
@@ -60,31 +63,41 @@ run-on-full w (x ∷ ps) p b =
 
 -- ---- the same, as code comes from the path's end
 
--- the pages that are left, the first i; those behind them are full, and belong to the run
-pub record Counted (w ps : List ℕ) (i : ℕ) : Type 0 where
-  pub within : i ≤ length ps
-  pub run : i + run_on w ps ≡ length ps + run_on w (take i ps)
+-- after n turns: the last n pages are full, and belong to the run
+pub record Counted (w : List ℕ) (path : List Spot) (n : ℕ) : Type 0 where
+  pub within : n ≤ length path
+  pub run : run_on w (pages_of path) ≡ n + run_on w (take (length path - n) (pages_of path))
 
-pub counted_none : (w ps : List ℕ) → Counted w ps (length ps)
-counted_none w ps = record { within = omega arith; run = rw (take_all (length ps) ps (omega arith)) }
+pub counted_none : (w : List ℕ) (path : List Spot) → Counted w path 0
+counted_none w path = record {
+  within = omega arith;
+  run = rw (take_all (length path - 0) (pages_of path) (omega (arith, pages-long path))) (omega arith);
+}
 
-module _ (w ps : List ℕ) (i j : ℕ) (a : Counted w ps i) (u : i ≡ suc j) where
-  split-last : take i ps ≡ take j ps ++ (get_or ps j 0 ∷ [])
-  split-last = rw u (take-suc ps j 0 (omega (arith, a.within)))
+module _ (w : List ℕ) (path : List Spot) (n : ℕ) (spot : Spot) (a : Counted w path n) (turn : Turn path n spot) where
+  split-last : take (length path - n) (pages_of path) ≡ take (length path - n - 1) (pages_of path) ++ (spot.page ∷ [])
+  split-last =
+      let more : suc (length path - n - 1) ≡ length path - n = omega (arith, turn.within) in
+      rw (more, turn.page) at (take-suc (pages_of path) (length path - n - 1) 0 (omega (arith, turn.within, pages-long path)))
 
-  pub counted-room : count_of (page_in w (get_or ps j 0)) < most → length ps - i ≡ run_on w ps
-  counted-room b = omega (arith, a.within, a.run, ap (run_on w) split-last ∙ run-on-room w (take j ps) (get_or ps j 0) b)
+  pub counted-room : count_of (page_in w spot.page) < most → n ≡ run_on w (pages_of path)
+  counted-room b = omega (arith, a.run, ap (run_on w) split-last ∙ run-on-room w (take (length path - n - 1) (pages_of path)) spot.page b)
 
-  pub counted-full : most ≤ count_of (page_in w (get_or ps j 0)) → Counted w ps j
-  counted-full b = record {
-    within = omega (arith, a.within);
-    run = omega (arith, a.run, ap (run_on w) split-last ∙ run-on-full w (take j ps) (get_or ps j 0) b);
-  }
+  pub counted-full : most ≤ count_of (page_in w spot.page) → Counted w path (n + 1)
+  counted-full b =
+      let less : length path - (n + 1) ≡ length path - n - 1 = omega arith in
+      record {
+        within = omega (arith, turn.within);
+        run = rw less
+            (omega (arith, a.run, ap (run_on w) split-last ∙ run-on-full w (take (length path - n - 1) (pages_of path)) spot.page b));
+      }
 
-pub counted-all : (w ps : List ℕ) (i : ℕ) → Counted w ps i → i ≤ 0 → length ps ≡ run_on w ps
+pub counted-all : (w : List ℕ) (path : List Spot) (n : ℕ) → Counted w path n → n ≡ length path → n ≡ run_on w (pages_of path)
 unfolding run_on
-counted-all w ps zero a z = omega (arith, a.run)
-counted-all w ps (suc i) a z = absurd (omega arith)
+counted-all w path n a all =
+    let none : length path - n ≡ 0 = omega arith in
+    let run : run_on w (pages_of path) ≡ n + 0 = rw none at a.run in
+    omega (arith, run)
 
 -- ---- of a tree
 
@@ -106,8 +119,12 @@ needs-of w ps k r e n few = record {
       rw (is, long) at n;
 }
 
-pub needs-one : (w ps : List ℕ) (k : ℕ) → k ≡ run_on w ps → k ≡ length ps → Needs w ps (k + 1)
-needs-one w ps k e all = needs-of w ps k (k + 1) e (rw (eq-eqb k (length ps) all) (omega arith)) (omega arith)
+pub needs-one : (w : List ℕ) (path : List Spot) (k : ℕ) → k ≡ run_on w (pages_of path) → k ≡ length path → Needs w (pages_of path) (k + 1)
+needs-one w path k e all =
+    let long = pages-long path in
+    needs-of w (pages_of path) k (k + 1) e (rw (eq-eqb k (length (pages_of path)) (omega arith)) (omega arith)) (omega arith)
 
-pub needs-same : (w ps : List ℕ) (k : ℕ) → k ≡ run_on w ps → k ≢ length ps → Needs w ps k
-needs-same w ps k e other = needs-of w ps k k e (rw (ne_eqb k (length ps) other)) (omega (arith, run-on-le w ps))
+pub needs-same : (w : List ℕ) (path : List Spot) (k : ℕ) → k ≡ run_on w (pages_of path) → k ≢ length path → Needs w (pages_of path) k
+needs-same w path k e other =
+    needs-of w (pages_of path) k k e (rw (ne_eqb k (length (pages_of path)) (λ same. other (same ∙ pages-long path))))
+    (omega (arith, run-on-le w (pages_of path)))

@@ -24,7 +24,9 @@ use Rattle.tree.specs.declared.search.Aim.{Aim}
 use Rattle.tree.specs.declared.search.Aim.TheVariants.{Before, After, Start, End}
 use Rattle.page.specs.declared.Unsound.{Unsound}
 use Rattle.tree.specs.declared.search.Found.{Found}
-use Rattle.tree.specs.Sits.{PathIn, PathOf, Sits, From}
+use Rattle.tree.specs.declared.steps.Spot.{Spot}
+use Rattle.tree.specs.Sits.{PathIn, PathOf, Sits, From, pages_of, slots_of}
+use Rattle.tree.specs.Steps.{spot}
 use Rattle.tree.specs.Search.{unsound, below_of, slot_by, aimed, got_by, got_found, GetsBelow, Gets, SeeksBelow, Seeks}
 use Rattle.model.proofs.Cases.{never}
 use Rattle.model.proofs.Entries.{Falls, falls_below, falls-up-to, gap-le}
@@ -33,6 +35,7 @@ use Rattle.model.proofs.Right.{sound-right}
 use Rattle.model.proofs.Written.{sound-written}
 use Rattle.lend.proofs.Lent.{page-inside}
 use Rattle.tree.proofs.Sitting.{sits-child, sits-below, sound-sits}
+use Rattle.tree.proofs.Paths.{pages-long, slots-long, pages-set, slots-set}
 use Rattle.tree.proofs.Searching.{below-inside, slot-few, sits-slot}
 
 module _ (w : List ℕ) (p : ℕ) (aim : Aim) where
@@ -129,72 +132,85 @@ module _ (w : List ℕ) (p : ℕ) (aim : Aim) where
 
 -- what the search from page `at` fills in from place i on, the search from page p fills in behind what stands before
 -- place i
-pub record Rest (w : List ℕ) (p : ℕ) (aim : Aim) (ps₀ ss₀ : List ℕ) (at i : ℕ) (ps ss : List ℕ) : Type 0 where
+pub record Rest (w : List ℕ) (p : ℕ) (aim : Aim) (path₀ : List Spot) (at i : ℕ) (path : List Spot) : Type 0 where
   pub inside : Inside at w
-  pub within : i < length ps
-  pub pages : length ps ≡ length ps₀
-  pub slots : length ss ≡ length ss₀
-  pub rest : (r : Result ⊤ Unsound) (qs rs : List ℕ) → SeeksBelow w at aim (drop i ps) (drop i ss) qs rs r
-      → SeeksBelow w p aim ps₀ ss₀ (take i ps ++ qs) (take i ss ++ rs) r
+  pub within : i < length path
+  pub long : length path ≡ length path₀
+  pub rest : (r : Result ⊤ Unsound) (qs rs : List ℕ) → SeeksBelow w at aim (drop i (pages_of path)) (drop i (slots_of path)) qs rs r
+      → SeeksBelow w p aim (pages_of path₀) (slots_of path₀) (take i (pages_of path) ++ qs) (take i (slots_of path) ++ rs) r
 
-pub rest-start : (w : List ℕ) (p : ℕ) (aim : Aim) (ps ss : List ℕ) → Inside p w → 1 ≤ length ps → Rest w p aim ps ss p 0 ps ss
-rest-start w p aim ps ss inside some = record { inside = inside; within = some; pages = refl; slots = refl; rest = λ r qs rs g. g }
+pub rest-start : (w : List ℕ) (p : ℕ) (aim : Aim) (path : List Spot) → Inside p w → 1 ≤ length path → Rest w p aim path p 0 path
+rest-start w p aim path inside some = record { inside = inside; within = some; long = refl; rest = λ r qs rs g. g }
 
-module _ {w : List ℕ} {p : ℕ} {aim : Aim} {ps₀ ss₀ : List ℕ} {at i : ℕ} {ps ss : List ℕ} (even : length ps₀ ≡ length ss₀)
-    (rest : Rest w p aim ps₀ ss₀ at i ps ss) where
+module _ {w : List ℕ} {p : ℕ} {aim : Aim} {path₀ : List Spot} {at i : ℕ} {path : List Spot} (rest : Rest w p aim path₀ at i path) where
+  abbrev ps : List ℕ
+  ps = pages_of path
+
+  abbrev ss : List ℕ
+  ss = slots_of path
+
   -- the levels left below page `at`
-  long : i + suc (length ps₀ - 1 - i) ≡ length ps
-  long = omega (arith, rest.within, rest.pages)
+  abbrev n : ℕ
+  n = length path₀ - 1 - i
 
-  short : i < length ss
-  short = omega (arith, rest.within, rest.pages, rest.slots)
+  in-pages : i < length ps
+  in-pages = omega (arith, pages-long path, rest.within)
 
-  pub rest-unsound : slot_by w at (length ps₀ - 1 - i) (aimed aim) ≡ Err unsound → SeeksBelow w p aim ps₀ ss₀ ps ss (Err unsound)
+  in-slots : i < length ss
+  in-slots = omega (arith, slots-long path, rest.within)
+
+  long : i + suc n ≡ length path
+  long = omega (arith, rest.within, rest.long)
+
+  pub rest-unsound : slot_by w at n (aimed aim) ≡ Err unsound → SeeksBelow w p aim (pages_of path₀) (slots_of path₀) ps ss (Err unsound)
   rest-unsound e =
-      let left : suc (length ps₀ - 1 - i) ≡ length (drop i ps) = rw (length-drop i ps) (omega (arith, long)) in
-      let found = rest.rest (Err unsound) (drop i ps) (drop i ss) (seek-unsound w at aim (length ps₀ - 1 - i) (drop i ps) (drop i ss) left e) in
+      let left : suc n ≡ length (drop i ps) = rw (length-drop i ps, pages-long path) (omega (arith, long)) in
+      let found = rest.rest (Err unsound) (drop i ps) (drop i ss) (seek-unsound w at aim n (drop i ps) (drop i ss) left e) in
       rw (take-append-drop i ps, take-append-drop i ss) at found
 
-  module _ {s : ℕ} (e : slot_by w at (length ps₀ - 1 - i) (aimed aim) ≡ Ok s) where
-    stored : (r : Result ⊤ Unsound) → SeeksBelow w at aim (get_or ps i 0 ∷ drop (suc i) ps) (get_or ss i 0 ∷ drop (suc i) ss) (at ∷ drop (suc i) ps) (s ∷ drop (suc i) ss) r
-        → SeeksBelow w p aim ps₀ ss₀ (set ps i at) (set ss i s) r
-    stored r g =
-        rw (set_split ps i at rest.within, set_split ss i s short)
-        (rest.rest r (at ∷ drop (suc i) ps) (s ∷ drop (suc i) ss) (rw (drop-cons ps i 0 rest.within, drop-cons ss i 0 short) g))
+  module _ {s : ℕ} (e : slot_by w at n (aimed aim) ≡ Ok s) where
+    -- with the page and its slot at place i
+    abbrev stored : List Spot
+    stored = set path i (spot at s)
 
-    pub rest_end : i ≡ length ps₀ - 1 → SeeksBelow w p aim ps₀ ss₀ (set ps i at) (set ss i s) (Ok tt)
+    stores : (r : Result ⊤ Unsound) → SeeksBelow w at aim (get_or ps i 0 ∷ drop (suc i) ps) (get_or ss i 0 ∷ drop (suc i) ss) (at ∷ drop (suc i) ps) (s ∷ drop (suc i) ss) r
+        → SeeksBelow w p aim (pages_of path₀) (slots_of path₀) (pages_of stored) (slots_of stored) r
+    stores r g =
+        rw (pages-set path i (spot at s), slots-set path i (spot at s), set_split ps i at in-pages, set_split ss i s in-slots)
+        (rest.rest r (at ∷ drop (suc i) ps) (s ∷ drop (suc i) ss) (rw (drop-cons ps i 0 in-pages, drop-cons ss i 0 in-slots) g))
+
+    pub rest_end : i ≡ length path₀ - 1 → SeeksBelow w p aim (pages_of path₀) (slots_of path₀) (pages_of stored) (slots_of stored) (Ok tt)
     rest_end last =
-        let no-pages : length (drop (suc i) ps) ≡ 0 = rw (length-drop (suc i) ps) (omega (arith, long)) in
-        let no-slots : length (drop (suc i) ss) ≡ 0 = rw (length-drop (suc i) ss) (omega (arith, long, rest.pages, rest.slots)) in
-        stored (Ok tt) (seek-end w at aim (length ps₀ - 1 - i) s e rest.inside _ _ (drop (suc i) ps) (drop (suc i) ss) (omega arith) no-pages no-slots)
+        let no-pages : length (drop (suc i) ps) ≡ 0 = rw (length-drop (suc i) ps, pages-long path) (omega (arith, long)) in
+        let no-slots : length (drop (suc i) ss) ≡ 0 = rw (length-drop (suc i) ss, slots-long path) (omega (arith, long)) in
+        stores (Ok tt) (seek-end w at aim n s e rest.inside _ _ (drop (suc i) ps) (drop (suc i) ss) (omega arith) no-pages no-slots)
 
-    module _ (more : i ≢ length ps₀ - 1) where
-      left : length ps₀ - 1 - i ≡ length (drop (suc i) ps)
-      left = rw (length-drop (suc i) ps) (omega (arith, long))
+    module _ (more : i ≢ length path₀ - 1) where
+      left : n ≡ length (drop (suc i) ps)
+      left = rw (length-drop (suc i) ps, pages-long path) (omega (arith, long))
 
-      tall : 0 < length ps₀ - 1 - i
-      tall = omega (arith, rest.within, rest.pages)
+      tall : 0 < n
+      tall = omega (arith, rest.within, rest.long)
 
-      pub rest-lost : below_of w at s ≡ Err unsound → SeeksBelow w p aim ps₀ ss₀ (set ps i at) (set ss i s) (Err unsound)
-      rest-lost b = stored (Err unsound) (seek-lost w at aim (length ps₀ - 1 - i) s e _ _ (drop (suc i) ps) (drop (suc i) ss) left tall b)
+      pub rest-lost : below_of w at s ≡ Err unsound → SeeksBelow w p aim (pages_of path₀) (slots_of path₀) (pages_of stored) (slots_of stored) (Err unsound)
+      rest-lost b = stores (Err unsound) (seek-lost w at aim n s e _ _ (drop (suc i) ps) (drop (suc i) ss) left tall b)
 
-      rest-next : (c : ℕ) → below_of w at s ≡ Ok c → Rest w p aim ps₀ ss₀ c (suc i) (set ps i at) (set ss i s)
+      rest-next : (c : ℕ) → below_of w at s ≡ Ok c → Rest w p aim path₀ c (suc i) stored
       rest-next c b = record {
         inside = page-inside w c (below-inside w at s c b).1;
-        within = rw (length-set ps i at) (omega (arith, tall, long));
-        pages = length-set ps i at ∙ rest.pages;
-        slots = length-set ss i s ∙ rest.slots;
+        within = rw (length-set path i (spot at s)) (omega (arith, tall, long));
+        long = length-set path i (spot at s) ∙ rest.long;
         rest = λ r qs rs g.
-            let below-it : SeeksBelow w c aim (drop (suc i) ps) (drop (suc i) ss) qs rs r = rw (drop-set-lt (suc i) ps i at (omega arith), drop-set-lt (suc i) ss i s (omega arith)) at g in
-            rw (take-suc-set ps i at rest.within, take-suc-set ss i s short, append_assoc (take i ps) (at ∷ []) qs, append_assoc (take i ss) (s ∷ []) rs)
+            let below-it : SeeksBelow w c aim (drop (suc i) ps) (drop (suc i) ss) qs rs r = rw (pages-set path i (spot at s), slots-set path i (spot at s), drop-set-lt (suc i) ps i at (omega arith), drop-set-lt (suc i) ss i s (omega arith)) at g in
+            rw (pages-set path i (spot at s), slots-set path i (spot at s), take-suc-set ps i at in-pages, take-suc-set ss i s in-slots, append_assoc (take i ps) (at ∷ []) qs, append_assoc (take i ss) (s ∷ []) rs)
             (rest.rest r (at ∷ qs) (s ∷ rs)
-            (rw (drop-cons ps i 0 rest.within, drop-cons ss i 0 short) (seek-down w at aim (length ps₀ - 1 - i) s e _ _ c rest.inside left tall b below-it)));
+            (rw (drop-cons ps i 0 in-pages, drop-cons ss i 0 in-slots) (seek-down w at aim n s e _ _ c rest.inside left tall b below-it)));
       }
 
-      pub rest-down : {c : ℕ} → below_of w at s ≡ Ok c → Rest w p aim ps₀ ss₀ c (i + 1) (set ps i at) (set ss i s)
+      pub rest-down : {c : ℕ} → below_of w at s ≡ Ok c → Rest w p aim path₀ c (i + 1) stored
       rest-down {c} b =
           let next : suc i ≡ i + 1 = omega arith in
-          subst (λ (j : ℕ). Rest w p aim ps₀ ss₀ c j (set ps i at) (set ss i s)) next (rest-next c b)
+          subst (λ (j : ℕ). Rest w p aim path₀ c j stored) next (rest-next c b)
 
 -- ---- a whole pool
 
@@ -241,16 +257,15 @@ unfolding gap_pages gap_slots
 path-none zero t g z = record { pages = refl; slots = refl }
 path-none (suc h) t g z = absurd (omega arith)
 
-pub seek-none : (w : List ℕ) (aim : Aim) (ps ss : List ℕ) → levels_word w ≡ 0 → length ps ≡ 0 → length ss ≡ 0 → Seeks w aim ps ss ps ss (Ok tt)
-seek-none w aim [] [] z a b = record {
+pub seek-none : (w : List ℕ) (aim : Aim) (path : List Spot) → levels_word w ≡ 0 → length path ≡ 0 → Seeks w aim (pages_of path) (slots_of path) (pages_of path) (slots_of path) (Ok tt)
+seek-none w aim [] z a = record {
   pages = refl;
   slots = refl;
   inside = λ y. record { even = refl; inside = tt; slots = tt };
   sound = λ s. refl;
   path = λ s. path-none (pool_of w).whole.levels (pool_of w).whole.tree _ (sound-levels w ∙ z);
 }
-seek-none w aim [] (y ∷ ss) z a b = absurd (omega arith)
-seek-none w aim (x ∷ ps) ss z a b = absurd (omega arith)
+seek-none w aim (x ∷ path) z a = absurd (omega arith)
 
 seek-tree : (w : List ℕ) (p : ℕ) (aim : Aim) (low h : ℕ) (t : Tree h) {ps ss ps' ss' : List ℕ} {r : Result ⊤ Unsound} → 0 < h → length ps ≡ h
     → Sits w low h t → Rising (entries h t) → page_number h t ≡ p → SeeksBelow w p aim ps ss ps' ss' r → (r ≡ Ok tt) × PathOf h t (gap_of (aimed aim) (entries h t)) ps' ss'

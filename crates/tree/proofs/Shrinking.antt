@@ -287,6 +287,14 @@ module _ (w w' ps ss : List ℕ) (r : Option lent.Entry) (one : length ps ≡ 1)
   removes-leaf : RemovesBelow w ps ss w' r
   removes-leaf = record { long = takes.only.long; head = (only-touches takes.only).head; shrinks = λ low h t g s b path marked. leaf-path low h t g s b path }
 
+-- no pages: nothing is done
+pub removes-nothing : (w ps ss : List ℕ) → length ps ≡ 0 → RemovesBelow w ps ss w None
+removes-nothing w ps ss none = record {
+  long = refl;
+  head = refl;
+  shrinks = λ low h t g s b path marked. absurd (omega (arith, ap length path.pages, (path-long (suc h) t g).0));
+}
+
 -- of each tree that sits there, with its pages marked, and each gap of it that has this path
 abbrev pub Along : (w ps ss : List ℕ) → ((h : ℕ) → Tree (suc h) → ℕ → Type 0) → Type 0
 Along w ps ss P = (low h : ℕ) (t : Tree (suc h)) (g : ℕ) → Sits w low (suc h) t → g ≤ size (suc h) t → PathOf (suc h) t g ps ss → Marked w (suc h) t → P h t g

@@ -3,12 +3,11 @@
 -- Assumes nothing.
 use mathlib.Core.Path.{◌≡◌, refl, sym, ap, ap₂, subst, ◌∙◌}
 use mathlib.Core.Bool.{true, false, cond}
-use mathlib.Core.List.{List, [], ◌∷◌, ◌++◌}
+use mathlib.Core.List.{List, [], ◌∷◌, ◌++◌, map-append}
 use Prim.Native.Nat.{ℕ, zero, suc, ◌-◌, ◌≤◌, ◌<◌}
 use native.Mathlib.Omega.{arith}
 use lib.Dec.{ltb}
-use lib.ListN.{length, take, get_or}
-use lib.Seq.{take-suc, length-take-le}
+use lib.ListN.{length}
 use borrow.Author.Tests.{lt-ltb, le-ltb}
 use Rattle.std.specs.Prelude.{Option, Some, None}
 use Rattle.model.specs.Basics.{All}
@@ -18,13 +17,14 @@ use Rattle.model.specs.Path.{gap_pages, gap_slots}
 use Rattle.page.specs.Page.{holds_at}
 use Rattle.lend.specs.Pages.{least, most, Inside, page_in}
 use Rattle.tree.specs.declared.steps.Spot.{Spot}
-use Rattle.tree.specs.Sits.{PathIn, Sits}
+use Rattle.tree.specs.Sits.{PathIn, Sits, pages_of, slots_of}
 use Rattle.tree.specs.Steps.{spot, spot_of, spot_before, or_else, here_after, here_before, deepest, Within, Spots, SpotAfter, SpotBefore}
 use Rattle.model.proofs.Cases.{either, either_lt, never}
-use Rattle.model.proofs.Basics.{next-some, next-none}
+use Rattle.model.proofs.Basics.{next-some, next-none, all_left, all_right}
 use Rattle.model.proofs.Gap.{way_down, child-shaped}
 use Rattle.model.proofs.Path.{slot-at-end, rest-at-end}
 use Rattle.page.proofs.Pages.{holds-facts}
+use Rattle.tree.proofs.Paths.{no_length, path-even}
 use Rattle.tree.proofs.Sitting.{sits-child, sits-slot, sits-rest}
 use Rattle.tree.proofs.Seams.{next-seam, prev-under, prev-seam, prev-first, start-slot}
 use Rattle.tree.proofs.Turning.{holds-own}
@@ -48,33 +48,6 @@ module _ (here : ℕ → ℕ → Option Spot) where
   deepest-more (x ∷ ps) [] p s e = absurd (omega arith)
   deepest-more (x ∷ ps) (y ∷ ss) p s e =
       ap (λ (r : Option Spot). or_else r (here x y)) (deepest-more ps ss p s (omega arith)) ∙ else-again (here p s) (deepest here ps ss) (here x y)
-
-  -- the places of a path that are left as code comes from its end, the first i: they give what all of it gives
-  pub record Left (ps ss : List ℕ) (i : ℕ) : Type 0 where
-    pub within : i ≤ length ps
-    pub gives : deepest here (take i ps) (take i ss) ≡ deepest here ps ss
-
-  module _ {ps ss : List ℕ} {i : ℕ} (e : length ps ≡ length ss) (a : Left ps ss i) where
-    -- the last of them has it, or the others do
-    left-last : 0 < i
-        → deepest here ps ss ≡ or_else (here (get_or ps (i - 1) 0) (get_or ss (i - 1) 0)) (deepest here (take (i - 1) ps) (take (i - 1) ss))
-    left-last l =
-        let j : ℕ = i - 1 in
-        let u : i ≡ suc j = omega arith in
-        let b = a.within in
-        let p : length (take j ps) ≡ j = length-take-le j ps (omega arith) in
-        let s : length (take j ss) ≡ j = length-take-le j ss (omega arith) in
-        let c : deepest here (take (suc j) ps) (take (suc j) ss) ≡ deepest here ps ss = rw u at a.gives in
-        sym c ∙ ap₂ (deepest here) (take-suc ps j 0 (omega arith)) (take-suc ss j 0 (omega arith))
-        ∙ deepest-more (take j ps) (take j ss) (get_or ps j 0) (get_or ss j 0) (omega arith)
-
-    -- where it has none, the others are left
-    left_less : 0 < i → here (get_or ps (i - 1) 0) (get_or ss (i - 1) 0) ≡ None → Left ps ss (i - 1)
-    left_less l n = let b = a.within in record { within = omega arith; gives = sym (left-last l ∙ rw n) }
-
-  left-none : {ps ss : List ℕ} {i : ℕ} → Left ps ss i → i ≡ 0 → None ≡ deepest here ps ss
-  unfolding deepest
-  left-none a z = rw z at a.gives
 
   -- what a page inside the pool has can be read, so can what the path has
   within-path : (w ps ss : List ℕ) → ((p s : ℕ) → Inside p w → Within w (here p s)) → All (λ p. Inside p w) ps → Within w (deepest here ps ss)
@@ -192,8 +165,47 @@ unfolding here_before
 before-first w p zero l = refl
 before-first w p (suc s) l = absurd (omega arith)
 
+-- what a page has at its slot, in a pool
+abbrev pub Here : Type 0
+Here = List ℕ → ℕ → ℕ → Option Spot
+
+-- the spots that are left as code comes from the path's end: their pages lie inside, and they give what all of it gives
+pub record Left (here : Here) (w : List ℕ) (path left : List Spot) : Type 0 where
+  pub inside : All (λ p. Inside p w) (pages_of left)
+  pub gives : deepest (here w) (pages_of left) (slots_of left) ≡ deepest (here w) (pages_of path) (slots_of path)
+
+module _ {here : Here} {w : List ℕ} {path left : List Spot} (a : Left here w path left) where
+  left-none : length left ≡ 0 → None ≡ deepest (here w) (pages_of path) (slots_of path)
+  unfolding deepest
+  left-none z = rw (no_length left z) at a.gives
+
+  -- the last of them, and the others
+  module _ (fewer : List Spot) (x : Spot) (e : left ≡ fewer ++ x ∷ []) where
+    pages : pages_of left ≡ pages_of fewer ++ x.page ∷ []
+    pages = ap pages_of e ∙ map-append (λ (y : Spot). y.page) fewer (x ∷ [])
+
+    slots : slots_of left ≡ slots_of fewer ++ x.slot ∷ []
+    slots = ap slots_of e ∙ map-append (λ (y : Spot). y.slot) fewer (x ∷ [])
+
+    insides : All (λ p. Inside p w) (pages_of fewer ++ x.page ∷ [])
+    insides = rw pages at a.inside
+
+    pub left-inside : Inside x.page w
+    left-inside = (all_right (λ p. Inside p w) (pages_of fewer) (x.page ∷ []) insides).0
+
+    -- it has one, or the others give what is given
+    left-last : or_else (here w x.page x.slot) (deepest (here w) (pages_of fewer) (slots_of fewer)) ≡ deepest (here w) (pages_of path) (slots_of path)
+    left-last =
+        sym (deepest-more (here w) (pages_of fewer) (slots_of fewer) x.page x.slot (path-even fewer)) ∙ ap₂ (deepest (here w)) (sym pages) (sym slots) ∙ a.gives
+
+    left-less : here w x.page x.slot ≡ None → Left here w path fewer
+    left-less n = record {
+      inside = all_left (λ p. Inside p w) (pages_of fewer) (x.page ∷ []) insides;
+      gives = rw n at left-last;
+    }
+
 module _ (w ps ss : List ℕ) (q : PathIn w ps ss) where
-  said : (here : List ℕ → ℕ → ℕ → Option Spot) (found : (h : ℕ) → Tree h → ℕ → Option Spot) → ((p s : ℕ) → Inside p w → Within w (here w p s))
+  said : (here : Here) (found : (h : ℕ) → Tree h → ℕ → Option Spot) → ((p s : ℕ) → Inside p w → Within w (here w p s))
       → ((low h : ℕ) (t : Tree h) (g : ℕ) → Sits w low h t → g ≤ size h t → deepest (here w) (gap_pages h t g) (gap_slots h t g) ≡ found h t g)
       → {r : Option Spot} → r ≡ deepest (here w) ps ss → Spots here found w ps ss r
   said here found inside along e = record {
@@ -208,34 +220,33 @@ module _ (w ps ss : List ℕ) (q : PathIn w ps ss) where
   before-said : {r : Option Spot} → r ≡ deepest (here_before w) ps ss → SpotBefore w ps ss r
   before-said = said here_before spot_before (within-before w) (path-before w)
 
--- in turn, from the leaf upward: the last page that is left has it, or has none and is left out, or none is left
-module _ {w ps ss : List ℕ} {i : ℕ} (q : PathIn w ps ss) (a : Left (here_after w) ps ss i) where
-  pub after-here : 0 < i → holds_at most (page_in w (get_or ps (i - 1) 0)) (get_or ss (i - 1) 0) 0 ≡ true
-      → SpotAfter w ps ss (Some (spot (get_or ps (i - 1) 0) (get_or ss (i - 1) 0)))
-  unfolding here_after
-  after-here l y = after-said w ps ss q (sym (left-last (here_after w) q.even a l ∙ rw y))
+-- in turn, from the leaf upward: the last spot that is left has it, or has none and is left out, or none is left
+module _ {w : List ℕ} {path left : List Spot} (q : PathIn w (pages_of path) (slots_of path)) (a : Left here_after w path left) where
+  pub after_none : length left ≡ 0 → SpotAfter w (pages_of path) (slots_of path) None
+  after_none z = after-said w (pages_of path) (slots_of path) q (left-none a z)
 
-  pub after-lost : 0 < i → holds_at most (page_in w (get_or ps (i - 1) 0)) (get_or ss (i - 1) 0) 0 ≡ false → Left (here_after w) ps ss (i - 1)
-  unfolding here_after
-  after-lost l n = left_less (here_after w) q.even a l (rw n)
+  module _ (fewer : List Spot) (x : Spot) (e : left ≡ fewer ++ x ∷ []) where
+    pub after-here : holds_at most (page_in w x.page) x.slot 0 ≡ true → SpotAfter w (pages_of path) (slots_of path) (Some x)
+    unfolding here_after
+    after-here y = after-said w (pages_of path) (slots_of path) q (rw y at (left-last a fewer x e))
 
-  pub after_none : i ≡ 0 → SpotAfter w ps ss None
-  after_none z = after-said w ps ss q (left-none (here_after w) a z)
+    pub after-lost : holds_at most (page_in w x.page) x.slot 0 ≡ false → Left here_after w path fewer
+    unfolding here_after
+    after-lost n = left-less a fewer x e (rw n)
 
-module _ {w ps ss : List ℕ} {i : ℕ} (q : PathIn w ps ss) (a : Left (here_before w) ps ss i) where
-  pub before_here : 0 < i → 0 < get_or ss (i - 1) 0 → holds_at most (page_in w (get_or ps (i - 1) 0)) (get_or ss (i - 1) 0 - 1) 0 ≡ true
-      → SpotBefore w ps ss (Some (spot (get_or ps (i - 1) 0) (get_or ss (i - 1) 0 - 1)))
-  unfolding here_after
-  before_here l m y =
-      before-said w ps ss q (sym (left-last (here_before w) q.even a l ∙ rw (here-before w (get_or ps (i - 1) 0) (get_or ss (i - 1) 0) m, y)))
+module _ {w : List ℕ} {path left : List Spot} (q : PathIn w (pages_of path) (slots_of path)) (a : Left here_before w path left) where
+  pub before-none : length left ≡ 0 → SpotBefore w (pages_of path) (slots_of path) None
+  before-none z = before-said w (pages_of path) (slots_of path) q (left-none a z)
 
-  pub before-lost : 0 < i → 0 < get_or ss (i - 1) 0 → holds_at most (page_in w (get_or ps (i - 1) 0)) (get_or ss (i - 1) 0 - 1) 0 ≡ false
-      → Left (here_before w) ps ss (i - 1)
-  unfolding here_after
-  before-lost l m n = left_less (here_before w) q.even a l (here-before w (get_or ps (i - 1) 0) (get_or ss (i - 1) 0) m ∙ rw n)
+  module _ (fewer : List Spot) (x : Spot) (e : left ≡ fewer ++ x ∷ []) where
+    pub before_here : 0 < x.slot → holds_at most (page_in w x.page) (x.slot - 1) 0 ≡ true
+        → SpotBefore w (pages_of path) (slots_of path) (Some (spot x.page (x.slot - 1)))
+    unfolding here_after
+    before_here m y = before-said w (pages_of path) (slots_of path) q (rw (here-before w x.page x.slot m, y) at (left-last a fewer x e))
 
-  pub before-past : 0 < i → get_or ss (i - 1) 0 ≤ 0 → Left (here_before w) ps ss (i - 1)
-  before-past l z = left_less (here_before w) q.even a l (before-first w (get_or ps (i - 1) 0) (get_or ss (i - 1) 0) z)
+    pub before-lost : 0 < x.slot → holds_at most (page_in w x.page) (x.slot - 1) 0 ≡ false → Left here_before w path fewer
+    unfolding here_after
+    before-lost m n = left-less a fewer x e (here-before w x.page x.slot m ∙ rw n)
 
-  pub before-none : i ≡ 0 → SpotBefore w ps ss None
-  before-none z = before-said w ps ss q (left-none (here_before w) a z)
+    pub before-past : x.slot ≤ 0 → Left here_before w path fewer
+    before-past z = left-less a fewer x e (before-first w x.page x.slot z)

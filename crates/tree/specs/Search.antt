@@ -72,7 +72,7 @@ ReadFew n r = (f : Found) → r ≡ Ok (Some f) → f.read ≤ n
 abbrev pub Gets : List ℕ → ℕ → Result (Option Found) Unsound → Type 0
 Gets w k r = Sound w → r ≡ got_by 0 (lookup k (held_by (pool_of w))) (pages_read k (pool_of w))
 
--- the path from page p down, into lent slices
+-- the path from page p down, its pages and its slots
 pub record SeeksBelow (w : List ℕ) (p : ℕ) (aim : Aim) (ps ss ps' ss' : List ℕ) (r : Result ⊤ Unsound) : Type 0 where
   pub pages : length ps' ≡ length ps
   pub slots : length ss' ≡ length ss

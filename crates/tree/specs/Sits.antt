@@ -1,7 +1,7 @@
 -- What the tree's functions are asked and given about a pool: a path of pages inside it, and the tree that stands in
 -- it.
 -- Assumes nothing: these are definitions.
-use Rattle.std.specs.Prelude.{◌≡◌, List, ℕ, suc, ◌≤◌, ◌<◌, length}
+use Rattle.std.specs.Prelude.{◌≡◌, List, map, ℕ, suc, ◌≤◌, ◌<◌, length}
 use Rattle.model.specs.Basics.{All}
 use Rattle.model.specs.Layout.{pages_in, today}
 use Rattle.model.specs.Tree.{Tree, entries, size, times, Rising, Shaped}
@@ -10,6 +10,14 @@ use Rattle.model.specs.Path.{gap_pages, gap_slots}
 use Rattle.model.specs.Pool.{held_by, pool_of}
 use Rattle.model.specs.Sound.{Sound}
 use Rattle.lend.specs.Pages.{least, most, Inside, page_in}
+use Rattle.tree.specs.declared.steps.Spot.{Spot}
+
+-- the pages of a path as it is lent, a spot a level, and its slots
+abbrev pub pages_of : List Spot → List ℕ
+pages_of path = map (λ (x : Spot). x.page) path
+
+abbrev pub slots_of : List Spot → List ℕ
+slots_of path = map (λ (x : Spot). x.slot) path
 
 -- a path inside the pool: a page and a slot for each level, root first
 pub record PathIn (w ps ss : List ℕ) : Type 0 where

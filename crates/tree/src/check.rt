@@ -1,6 +1,7 @@
 // Check: whether a pool is sound, on any words of any length. One walk in key order, by recursion over the remaining
 // height, which falls; it stops at the first fault, and meets at most P pages. Keys that rise over the whole walk meet
 // no page twice, so no list of pages is kept: each page met is taken, and they are as many as the map's ones.
+// What clauses ask of the pool no type says: the reason stands in the crate lend, src/lib.rt.
 ghost use Rattle.std.specs.Prelude.{◌≡◌, true, ◌*◌, ◌≤◌, length, Ok};
 ghost use Rattle.model.specs.Basics.{every};
 ghost use Rattle.model.specs.Layout.{most_pages, first_word, pages_in, today};

@@ -1,15 +1,17 @@
 // Insertion along a path, at its gap. The pages it needs are counted first, from the leaf upward, and free pages only
 // where one is needed. Then the new entry goes into the leaf, and what a page hands up goes into the page above it.
+// What clauses ask of the pool no type says: the reason stands in the crate lend, src/lib.rt.
 ghost use Rattle.std.specs.Prelude.{◌≡◌, true, ◌≤◌, length, get_or};
 ghost use Rattle.model.specs.Basics.{All};
 ghost use Rattle.model.specs.Layout.{today, most_levels};
 ghost use Rattle.model.specs.Head.{levels_word, headed};
 ghost use Rattle.lend.specs.Pages.{most, Inside};
 ghost use Rattle.lend.specs.Touches.{Sized};
-ghost use Rattle.tree.specs.Sits.{PathIn};
+ghost use Rattle.tree.specs.Sits.{pages_of, slots_of, PathIn};
 ghost use Rattle.page.specs.Page.{plain};
 ghost use Rattle.tree.specs.Insert.{run_on, Needs, Puts, InsertsBelow, NewRoots, Inserts};
 
+use crate::steps::Spot;
 use lend::{bits, pages};
 use model::{COUNT, LEVELS, MOST, ROOT};
 use page::Entry;
@@ -26,26 +28,27 @@ pub struct Up {
 pub struct Full;
 
 // The number of full pages in an unbroken run from the leaf upward.
-fn run(pool: &[u64], pages: &[usize]) -> usize
-    requires { All (λ p. Inside p pool.now) pages.now }
-    ensures { result ≡ run_on pool.now pages.now }
+fn run(pool: &[u64], path: &[Spot]) -> usize
+    requires { All (λ p. Inside p pool.now) (pages_of path.now) }
+    ensures { result ≡ run_on pool.now (pages_of path.now) }
 {
-    let n = pages.len();
-    for i in (0..n).rev() {
-        if pages::count(pool, pages[i]) < MOST {
-            return n - 1 - i;
+    let mut full = 0;
+    for spot in path.iter().rev() {
+        if pages::count(pool, spot.page) < MOST {
+            break;
         }
+        full += 1;
     }
-    n
+    full
 }
 
 // The pages that an insert needs: 1 more if that run includes the root; so 1 for an empty tree.
-fn needed(pool: &[u64], pages: &[usize]) -> usize
-    requires { All (λ p. Inside p pool.now) pages.now }
-    ensures { Needs pool.now pages.now result }
+fn needed(pool: &[u64], path: &[Spot]) -> usize
+    requires { All (λ p. Inside p pool.now) (pages_of path.now) }
+    ensures { Needs pool.now (pages_of path.now) result }
 {
-    let k = run(pool, pages);
-    if k == pages.len() { k + 1 } else { k }
+    let k = run(pool, path);
+    if k == path.len() { k + 1 } else { k }
 }
 
 // An entry, and the child behind it, put into page `p`. A full page keeps the first five, and the lowest free page gets
@@ -69,23 +72,23 @@ fn put(pool: &mut [u64], p: usize, slot: usize, up: Up) -> Option<Up>
 }
 
 // From the leaf upward: what a page hands up goes into the page above it.
-fn insert_along(pool: &mut [u64], pages: &[usize], slots: &[usize], entry: Entry) -> Option<Up>
+fn insert_along(pool: &mut [u64], path: &[Spot], entry: Entry) -> Option<Up>
     requires sized { Sized pool.old }
-    requires path_in { PathIn pool.old pages.now slots.now }
-    ensures { InsertsBelow pool.old pages.now slots.now (plain entry) pool.new result }
+    requires path_in { PathIn pool.old (pages_of path.now) (slots_of path.now) }
+    ensures { InsertsBelow pool.old (pages_of path.now) (slots_of path.now) (plain entry) pool.new result }
 {
     let mut up = Up { entry, child: 0 };
-    for i in (0..pages.len()).rev() {
-        up = put(pool, pages[i], slots[i], up)?;
+    for spot in path.iter().rev() {
+        up = put(pool, spot.page, spot.slot, up)?;
     }
     Some(up)
 }
 
 // The root's page, where there is one.
-fn root_of(pages: &[usize]) -> u64
-    ensures { result ≡ get_or pages.now 0 0 }
+fn root_of(path: &[Spot]) -> u64
+    ensures { result ≡ get_or (pages_of path.now) 0 0 }
 {
-    pages.first().map_or(0, |p| *p as u64)
+    path.first().map_or(0, |spot| spot.page as u64)
 }
 
 // The lowest free page becomes the root, one level up.
@@ -102,18 +105,18 @@ fn new_root(pool: &mut [u64], levels: usize, entry: Entry, left: u64, right: u64
 }
 
 // An entry at the path's gap. Where it is refused no word has changed.
-pub fn insert(pool: &mut [u64], pages: &[usize], slots: &[usize], entry: Entry) -> Result<(), Full>
+pub fn insert(pool: &mut [u64], path: &[Spot], entry: Entry) -> Result<(), Full>
     requires pool_value { headed pool.old ≡ true }
-    requires pages_len { length pages.now ≡ levels_word pool.old }
-    requires path_in { PathIn pool.old pages.now slots.now }
-    ensures { Inserts pool.old pages.now slots.now (plain entry) pool.new result }
+    requires path_len { length path.now ≡ levels_word pool.old }
+    requires path_in { PathIn pool.old (pages_of path.now) (slots_of path.now) }
+    ensures { Inserts pool.old (pages_of path.now) (slots_of path.now) (plain entry) pool.new result }
 {
-    let k = needed(pool, pages);
+    let k = needed(pool, path);
     if 0 < k && !bits::has_free(pool, k) {
         return Err(Full);
     }
-    if let Some(up) = insert_along(pool, pages, slots, entry) {
-        new_root(pool, pages.len(), up.entry, root_of(pages), up.child);
+    if let Some(up) = insert_along(pool, path, entry) {
+        new_root(pool, path.len(), up.entry, root_of(path), up.child);
     }
     pool[COUNT] += 1;
     Ok(())

@@ -1,24 +1,25 @@
 // Removal along a path: the entry after its gap goes. All pages that will be read are looked at before the first store.
 // An entry of an upper page is replaced by the greatest below its left child, which comes up from the leaf; pages left
 // with three are mended, from the leaf upward. What a page refuses there is dropped (`let _`): in a sound pool nothing
-// is, since all was looked at before.
+// is, since all was looked at before. What clauses ask of the pool no type says: see the crate lend, src/lib.rt.
 ghost use Rattle.std.specs.Prelude.{◌≡◌, true, [], ◌∷◌, ◌≤◌, leb, length};
 ghost use Rattle.model.specs.Basics.{every};
 ghost use Rattle.model.specs.Layout.{today, most_levels, first_word};
 ghost use Rattle.model.specs.Head.{levels_word, headed};
 ghost use Rattle.model.specs.Page.{count_of};
 ghost use Rattle.lend.specs.Pages.{least, most, Inside, page_in};
-ghost use Rattle.tree.specs.Sits.{PathIn};
+ghost use Rattle.tree.specs.Sits.{pages_of, slots_of, PathIn};
 ghost use Rattle.tree.specs.Remove.{count_below, plan_by, Plans, MovesLeft, MovesRight, JoinsBelow, Mends, TakesOut, Inherits, RemovesBelow, Beside, CanRemove, Lowers, Removes};
 ghost use Rattle.model.specs.Mend as mends;
 
 use crate::search;
+use crate::steps::Spot;
 use lend::{bits, pages};
 use model::{COUNT, LEAST, LEVELS, MOST, ROOT};
 use page::{Entry, Unsound};
 
 // How a page left with three is mended, by neighbours j and j + 1: the left one gives an entry, the right one does, or
-// they join.
+// they join. `Keep` is one of the cases, as in the model's plan, and no `None` around the others.
 #[derive(Clone, Copy)]
 pub enum Mending {
     Keep,
@@ -64,7 +65,8 @@ fn plan(pool: &[u64], u: usize, i: usize) -> Mending
     }
 }
 
-// Child `j` of page `u` gives its last entry to child `j + 1`, through the page.
+// Child `j` of page `u` gives its last entry to child `j + 1`, through the page. This, `move_right` and `join` are three,
+// and none takes what to do as a closure: each promises something else.
 fn move_left(pool: &mut [u64], u: usize, j: usize) -> Result<(), Unsound>
     requires { (first_word today 0 ≤ length pool.old) × Inside u pool.old × (j ≤ most) }
     ensures { MovesLeft u j pool.old pool.new }
@@ -143,17 +145,17 @@ fn inherit(pool: &mut [u64], p: usize, s: usize, gone: Option<Entry>) -> Option<
 
 // From the leaf upward: the entry goes there, and each page above takes in what comes up and mends its child on the
 // path. A page that hands nothing up, and whose child has enough, is the last: no page above it changes.
-fn remove_along(pool: &mut [u64], pages: &[usize], slots: &[usize]) -> Option<Entry>
-    requires today_in_bounds { (first_word today 0 ≤ length pool.old) × (1 ≤ length pages.now) }
-    requires path_in { PathIn pool.old pages.now slots.now }
-    ensures { RemovesBelow pool.old pages.now slots.now pool.new result }
+fn remove_along(pool: &mut [u64], path: &[Spot]) -> Option<Entry>
+    requires today_in_bounds { first_word today 0 ≤ length pool.old }
+    requires path_in { PathIn pool.old (pages_of path.now) (slots_of path.now) }
+    ensures { RemovesBelow pool.old (pages_of path.now) (slots_of path.now) pool.new result }
 {
-    let leaf = pages.len() - 1;
-    let mut gone = take_out(pool, pages[leaf], slots[leaf]);
-    for i in (0..leaf).rev() {
-        gone = inherit(pool, pages[i], slots[i], gone);
-        if count_below(pool, pages[i], slots[i]) < LEAST {
-            let _ = mend(pool, pages[i], slots[i]);
+    let (leaf, uppers) = path.split_last()?;
+    let mut gone = take_out(pool, leaf.page, leaf.slot);
+    for spot in uppers.iter().rev() {
+        gone = inherit(pool, spot.page, spot.slot, gone);
+        if count_below(pool, spot.page, spot.slot) < LEAST {
+            let _ = mend(pool, spot.page, spot.slot);
         } else if gone.is_none() {
             return None;
         }
@@ -182,16 +184,18 @@ fn beside(pool: &[u64], u: usize, i: usize) -> bool
 }
 
 // Whether all that a removal reads is sound: the neighbours of each page that may be left short, from the leaf upward.
-fn can_remove(pool: &[u64], pages: &[usize], slots: &[usize]) -> bool
+// By the index, since each turn reads two places of the path: windows of two would need one each as well.
+fn can_remove(pool: &[u64], path: &[Spot]) -> bool
     requires today_in_bounds { first_word today 0 ≤ length pool.now }
-    requires path_in { PathIn pool.now pages.now slots.now }
-    ensures { CanRemove pool.now pages.now slots.now result }
+    requires path_in { PathIn pool.now (pages_of path.now) (slots_of path.now) }
+    ensures { CanRemove pool.now (pages_of path.now) (slots_of path.now) result }
 {
-    for i in (1..pages.len()).rev() {
-        if LEAST < pages::count(pool, pages[i]) {
+    for i in (1..path.len()).rev() {
+        if LEAST < pages::count(pool, path[i].page) {
             return true;
         }
-        if !beside(pool, pages[i - 1], slots[i - 1]) {
+        let above = path[i - 1];
+        if !beside(pool, above.page, above.slot) {
             return false;
         }
     }
@@ -221,17 +225,20 @@ fn lower_root(pool: &mut [u64], root: usize, levels: usize)
 }
 
 // The entry after the path's gap goes. Where that is refused no word has changed.
-pub fn remove(pool: &mut [u64], pages: &[usize], slots: &[usize]) -> Result<(), Unsound>
+pub fn remove(pool: &mut [u64], path: &[Spot]) -> Result<(), Unsound>
     requires pool_value { headed pool.old ≡ true }
-    requires pages_len { length pages.now ≡ levels_word pool.old }
-    requires path_in { PathIn pool.old pages.now slots.now }
-    ensures { Removes pool.old pages.now slots.now pool.new result }
+    requires path_len { length path.now ≡ levels_word pool.old }
+    requires path_in { PathIn pool.old (pages_of path.now) (slots_of path.now) }
+    ensures { Removes pool.old (pages_of path.now) (slots_of path.now) pool.new result }
 {
-    if pages.is_empty() || !can_remove(pool, pages, slots) {
+    let Some(root) = path.first() else {
+        return Err(Unsound);
+    };
+    if !can_remove(pool, path) {
         return Err(Unsound);
     }
-    remove_along(pool, pages, slots);
-    lower_root(pool, pages[0], pages.len());
+    remove_along(pool, path);
+    lower_root(pool, root.page, path.len());
     pool[COUNT] -= 1;
     Ok(())
 }

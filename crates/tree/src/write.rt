@@ -1,5 +1,6 @@
 // An entry overwritten where it stands, as insert of a key present, replace, write next and write prev do. No page is
 // needed or freed.
+// What clauses ask of the pool no type says: the reason stands in the crate lend, src/lib.rt.
 ghost use Rattle.std.specs.Prelude.{◌<◌};
 ghost use Rattle.lend.specs.Pages.{most, Inside};
 ghost use Rattle.tree.specs.Write.{Writes};

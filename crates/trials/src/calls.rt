@@ -1,7 +1,7 @@
 // The calls of a script: every call of map, set and cursor, each made on the pool that is lent; what it answers, in one
 // form.
-use crate::limit::Limit;
 use crate::told::Told;
+use map::bound::Bound;
 use map::refusal::Refusal;
 
 // A call, with its key and its value where it takes any; those of a set by themselves.
@@ -16,14 +16,14 @@ pub enum Call {
     SetRemove(u64),
     SetGet(u64),
     SetContains(u64),
-    // By the kind's number.
+    // By the kind's number, which may be that of none.
     Make(u64),
     Clear,
     Count,
     IsEmpty,
     Check,
-    Lower(Limit),
-    Upper(Limit),
+    Lower(Bound),
+    Upper(Bound),
     Next,
     Prev,
     PeekNext,
@@ -56,8 +56,8 @@ impl Call {
             Call::Count => map::pool::count(pool).map(Told::Is),
             Call::IsEmpty => map::pool::is_empty(pool).map(Told::Empty),
             Call::Check => Ok(Told::Sound(map::pool::check(pool))),
-            Call::Lower(bound) => bound.lower(pool).map(Told::Opened),
-            Call::Upper(bound) => bound.upper(pool).map(Told::Opened),
+            Call::Lower(bound) => cursor::opening::lower(pool, bound).map(Told::Opened),
+            Call::Upper(bound) => cursor::opening::upper(pool, bound).map(Told::Opened),
             Call::Next => cursor::next(pool).map(Told::Stepped),
             Call::Prev => cursor::prev(pool).map(Told::Stepped),
             Call::PeekNext => cursor::peek_next(pool).map(Told::Stepped),

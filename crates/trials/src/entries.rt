@@ -1,5 +1,6 @@
 // Calls at random on a map or a set, each held against the table, which has 1 at the places of a set's keys: what is
-// right, what is counted, and what the table has after it.
+// right, what is counted, and what the table has after it. Map and set have functions of their own, for their calls
+// take and answer different things.
 use crate::lists::{self, List, Span};
 use crate::trial::{Kind, Trial};
 use map::refusal::Refusal;

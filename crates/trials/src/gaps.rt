@@ -1,6 +1,6 @@
 // Cursor calls at random on a map, each held against the table, as are the peeks after each. The gap is a place of the
 // table: the entries at places below it come before it.
-use crate::limit::{Limit, lower_gap, upper_gap};
+use crate::limit::{self, lower_gap, upper_gap};
 use crate::lists::{Columns, List};
 use crate::trial::Trial;
 use map::refusal::Refusal;
@@ -73,20 +73,20 @@ impl Trial<'_> {
         self.gap = behind.map_or(self.gap, |held| held.place);
     }
 
+    // What a write answered, and what the table had there.
+    fn wrote(&mut self, before: Result<Option<u64>, Refusal>, beside: Option<Held>, value: u64) {
+        let had = beside.and_then(|held| self.table.insert(held.place, value));
+        self.tally.hold(before == Ok(had));
+    }
+
     fn write_next(&mut self, value: u64) {
         let before = cursor::write_next(self.pool, value);
-        let had = self
-            .ahead()
-            .and_then(|held| self.table.insert(held.place, value));
-        self.tally.hold(before == Ok(had));
+        self.wrote(before, self.ahead(), value);
     }
 
     fn write_prev(&mut self, value: u64) {
         let before = cursor::write_prev(self.pool, value);
-        let had = self
-            .behind()
-            .and_then(|held| self.table.insert(held.place, value));
-        self.tally.hold(before == Ok(had));
+        self.wrote(before, self.behind(), value);
     }
 
     fn remove_next(&mut self) {
@@ -139,14 +139,14 @@ impl Trial<'_> {
             Bound::Unbounded => 0,
             _ => word_at(self.pool, LEVELS),
         };
-        let read = Limit::at(bound).lower(self.pool);
+        let read = cursor::opening::lower(self.pool, limit::at(bound));
         self.tally.hold(read == Ok(levels as usize));
         self.gap = lower_gap(bound);
     }
 
     fn open_upper(&mut self, bound: Bound<usize>) {
         let levels = word_at(self.pool, LEVELS);
-        let read = Limit::at(bound).upper(self.pool);
+        let read = cursor::opening::upper(self.pool, limit::at(bound));
         self.tally.hold(read == Ok(levels as usize));
         self.gap = upper_gap(bound, self.end());
     }

@@ -1,6 +1,7 @@
 // Lists, and whether what one wrote is the table's: between two bounds, into columns of lengths of their own, which
 // entries come, how many, and that no word past them is changed.
-use crate::limit::{Limit, lower_gap, upper_gap};
+use crate::limit::{self, lower_gap, upper_gap};
+use map::bound;
 use map::refusal::Refusal;
 use std::alloc::{AllocError, Global};
 use std::ops::Bound;
@@ -9,8 +10,8 @@ use table::{Held, PLACES, Table, UNTOUCHED};
 
 #[derive(Clone, Copy)]
 pub struct Bounds {
-    pub lower: Limit,
-    pub upper: Limit,
+    pub lower: bound::Bound,
+    pub upper: bound::Bound,
 }
 
 // A map's entries, keys or values, or a set's keys.
@@ -32,18 +33,18 @@ impl List {
         values: &mut [u64],
     ) -> Result<usize, Refusal> {
         let Bounds { lower, upper } = bounds;
-        let (a, from, b, to) = (lower.kind, lower.key, upper.kind, upper.key);
         match self {
-            List::Entries => map::list::entries(pool, a, from, b, to, keys, values),
-            List::Keys => map::list::keys(pool, a, from, b, to, keys),
-            List::Values => map::list::values(pool, a, from, b, to, values),
-            List::SetKeys => map::set::list(pool, a, from, b, to, keys),
+            List::Entries => map::list::entries(pool, lower, upper, keys, values),
+            List::Keys => map::list::keys(pool, lower, upper, keys),
+            List::Values => map::list::values(pool, lower, upper, values),
+            List::SetKeys => map::set::list(pool, lower, upper, keys),
         }
     }
 }
 
 // ---- columns
 
+// Keys and values apart, as the calls write them.
 #[derive(PartialEq, Eq, Drop)]
 pub struct Columns {
     pub keys: Vec<u64>,
@@ -133,8 +134,8 @@ impl Span {
     ) -> Result<Option<usize>, AllocError> {
         let mut wrote = columns;
         let bounds = Bounds {
-            lower: Limit::at(self.lower),
-            upper: Limit::at(self.upper),
+            lower: limit::at(self.lower),
+            upper: limit::at(self.upper),
         };
         let told = list.write(pool, bounds, &mut wrote.keys, &mut wrote.values);
         let last = upper_gap(self.upper, table.places());

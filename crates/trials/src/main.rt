@@ -21,7 +21,8 @@ use std::alloc::Global;
 use std::io;
 use table::UNTOUCHED;
 
-// Bytes of the longest script, and words of the longest pool of the trials.
+// Bytes of the longest script, and words of the longest pool of the trials. The bytes are an array and no `Vec`: what
+// is longer is cut off, and reading can't want memory.
 const MOST: usize = 8192;
 
 const WORDS: usize = 8192;

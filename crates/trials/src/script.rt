@@ -4,12 +4,13 @@
 ghost use Rattle.std.specs.Prelude.{◌≤◌, length};
 
 use crate::calls::Call;
-use crate::limit::{Limit, UNBOUNDED};
+use crate::limit::{UNBOUNDED, included};
 use crate::lists::{Bounds, List};
 use crate::pages::page;
 use crate::space::{Part, Space, copy_in};
 use crate::step::{PoolStep, Step, Turn};
 use crate::told::Told;
+use map::bound::Bound;
 use map::refusal::Refusal;
 use std::io;
 use table::{UNTOUCHED, word_at};
@@ -71,7 +72,7 @@ fn only(rt: &impl Print, pool: &[u64], bounds: Bounds) -> io::Result<()> {
 }
 
 // How many keys there are between two bounds.
-fn keys(pool: &[u64], lower: Limit, upper: Limit) -> Result<usize, Refusal> {
+fn keys(pool: &[u64], lower: Bound, upper: Bound) -> Result<usize, Refusal> {
     let mut keys = [0u64; 16];
     List::Keys.write(pool, Bounds { lower, upper }, &mut keys, &mut [])
 }
@@ -79,14 +80,14 @@ fn keys(pool: &[u64], lower: Limit, upper: Limit) -> Result<usize, Refusal> {
 // How many there are before the gap, up to the entry that a peek shows there, and after it.
 fn before(pool: &[u64]) -> Result<usize, Refusal> {
     match cursor::peek_prev(pool)? {
-        Some(entry) => keys(pool, UNBOUNDED, Limit::included(entry.key)),
+        Some(entry) => keys(pool, UNBOUNDED, included(entry.key)),
         None => Ok(0),
     }
 }
 
 fn after(pool: &[u64]) -> Result<usize, Refusal> {
     match cursor::peek_next(pool)? {
-        Some(entry) => keys(pool, Limit::included(entry.key), UNBOUNDED),
+        Some(entry) => keys(pool, included(entry.key), UNBOUNDED),
         None => Ok(0),
     }
 }
@@ -129,6 +130,7 @@ enum Mark {
 }
 
 impl Mark {
+    // No `TryFrom`: a byte that is none is text, and nobody is told why.
     fn of(byte: u8) -> Option<Mark> {
         match byte {
             b'~' => Some(Mark::InWords),

@@ -1,8 +1,8 @@
 // The steps of a script, as its letters say: a letter, two figures and a key of two figures. The figures are the kinds
 // of bounds, a kind of pool, a page, a value or the hundreds of a number of words.
 use crate::calls::Call;
-use crate::limit::Limit;
 use crate::lists::{Bounds, List};
+use map::bound::Bound;
 
 // What is done with the pool.
 #[derive(Clone, Copy)]
@@ -35,7 +35,7 @@ pub enum Turn {
     // Into so many words.
     CopyOut(usize),
     Pool(PoolStep),
-    // By a letter that is none.
+    // By a letter that is none: it is printed as a turn that tells nothing.
     Nothing,
 }
 
@@ -100,8 +100,8 @@ impl Given {
         (100 * self.first + self.key) as usize
     }
 
-    fn limit(self) -> Limit {
-        Limit {
+    fn bound(self) -> Bound {
+        Bound {
             kind: self.first,
             key: self.key,
         }
@@ -110,8 +110,8 @@ impl Given {
     // Two bounds, both at the key.
     fn bounds(self) -> Bounds {
         Bounds {
-            lower: self.limit(),
-            upper: Limit {
+            lower: self.bound(),
+            upper: Bound {
                 kind: self.second,
                 key: self.key,
             },
@@ -136,8 +136,8 @@ fn call_by(letter: u8, given: Given) -> Option<Call> {
         b'O' => Call::Count,
         b'Z' => Call::IsEmpty,
         b'k' => Call::Check,
-        b'l' => Call::Lower(given.limit()),
-        b'u' => Call::Upper(given.limit()),
+        b'l' => Call::Lower(given.bound()),
+        b'u' => Call::Upper(given.bound()),
         b'n' => Call::Next,
         b'p' => Call::Prev,
         b'N' => Call::PeekNext,

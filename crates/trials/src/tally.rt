@@ -35,7 +35,7 @@ impl Tally {
         }
     }
 
-    // A key that is stored, and one that is removed, by the value that it had.
+    // A key that is stored, and one that is removed, by the value that it had: each has counts of its own.
     pub fn store(&mut self, had: Option<u64>) {
         match had {
             Some(_) => self.over += 1,

@@ -31,6 +31,7 @@ pub enum Told {
     Is(u64),
     // A page of a pool.
     Free(usize),
+    // One of them, and no `Result` around the others: it is printed as they are.
     Refused(Refusal),
 }
 

@@ -11,4 +11,4 @@ pub returns : goal.returns
 returns c =
     let pass = sym c.in_ok-ready.ensures in
     let long = head-long _ (passes-cursor _ pass).fits in
-    exact-done pass (c.lay.ensures ∙ gap-cleared _ (omega arith))
+    exact-done pass (c.clear.ensures ∙ gap-cleared _ (omega arith))

@@ -1,33 +1,14 @@
 -- `peek_prev` meets its contract: the value that the search finds for the key that the gap names.
-use mathlib.Core.Path.{◌≡◌, sym, ap, ◌∙◌}
+use mathlib.Core.Path.{ap, ◌∙◌}
 use Rattle.std.specs.Prelude.{Ok}
-use mathlib.Core.Bool.{true}
-use native.Mathlib.Omega.{arith}
-use Rattle.model.specs.Head.{headed}
-use Rattle.lend.proofs.Fitting.{head-long}
-use Rattle.cursor.proofs.Gaps.{passes-cursor}
-use Rattle.cursor.proofs.Backward.{after_one, peek-prev-end, peek-prev-lost, peek-prev-value}
+use Rattle.cursor.proofs.Backward.{peek-prev-end, peek-prev-lost, peek-prev-value}
 use Rattle.cursor.proofs.peek_prev.Goals as goal
-use Rattle.cursor.proofs.peek_prev.Goals.{In_ok-ready}
-
-fits : (c : In_ok-ready) → headed c.args.pool.now ≡ true
-fits c = (passes-cursor _ (sym c.in_ok-ready.ensures)).fits
-
-pub bounds-pool-6 : goal.bounds-pool-6
-bounds-pool-6 c = let long = head-long _ (fits (goal.at.bounds-pool-6 c).In_ok-ready) in omega arith
-
-pub returns-then-pool-eq0 : goal.returns-then-pool-eq0
-returns-then-pool-eq0 c = peek-prev-end c.in_ok-ready.ensures c.if-pool-eq0.true
-
-pub bounds-pool-7 : goal.bounds-pool-7
-bounds-pool-7 c = let long = head-long _ (fits (goal.at.bounds-pool-7 c).In_ok-ready) in omega arith
 
 pub returns-in_default : goal.returns-in_default
-returns-in_default c =
-    let head = fits (goal.at.returns-in_default c).In_ok-ready in
-    peek-prev-lost c.in_ok-ready.ensures (after_one _ head c.if-pool-eq0.false) c.get.ensures.0 (c.in_ok-found.was ∙ ap Ok c.in_default.is)
+returns-in_default c = peek-prev-end c.in_ok-ready.ensures c.in_default.ensures
+
+pub returns-in_default-2 : goal.returns-in_default-2
+returns-in_default-2 c = peek-prev-lost c.in_ok-ready.ensures c.in-Some.ensures c.get.ensures.0 (c.in_ok-found.was ∙ ap Ok c.in_default-2.is)
 
 pub returns : goal.returns
-returns c =
-    let head = fits (goal.at.returns c).In_ok-ready in
-    peek-prev-value c.in_ok-ready.ensures (after_one _ head c.if-pool-eq0.false) c.get.ensures (c.in_ok-found.was ∙ ap Ok c.in-Some.is)
+returns c = peek-prev-value c.in_ok-ready.ensures c.in-Some.ensures c.get.ensures (c.in_ok-found.was ∙ ap Ok c.in-Some-2.is)

@@ -1,24 +1,13 @@
--- `prev` meets its contract: where the gap is not at the start, `back` goes over the entry that it names.
-use mathlib.Core.Path.{◌≡◌, sym}
-use mathlib.Core.Bool.{true}
-use native.Mathlib.Omega.{arith}
-use Rattle.model.specs.Head.{headed}
-use Rattle.lend.proofs.Fitting.{head-long}
-use Rattle.cursor.proofs.Gaps.{passes-cursor}
-use Rattle.cursor.proofs.Backward.{after_one, prev-end}
+-- `prev` meets its contract: where the gap is not at the start, the path of the search for
+-- the entry that it names is the path of the gap before it.
+use Rattle.cursor.proofs.Backward.{prev-end, prev-lost, prev-back}
 use Rattle.cursor.proofs.prev.Goals as goal
-use Rattle.cursor.proofs.prev.Goals.{In_ok-ready}
 
-fits : (c : In_ok-ready) → headed c.args.pool.now ≡ true
-fits c = (passes-cursor _ (sym c.in_ok-ready.ensures)).fits
+pub returns-in_default : goal.returns-in_default
+returns-in_default c = prev-end c.in_ok-ready.ensures c.in_default.ensures
 
-pub bounds-pool-6 : goal.bounds-pool-6
-bounds-pool-6 c = let long = head-long _ (fits (goal.at.bounds-pool-6 c).In_ok-ready) in omega arith
+pub returns-in_default-2 : goal.returns-in_default-2
+returns-in_default-2 c = prev-lost c.in_ok-ready.ensures c.in-Some.ensures c.in_ok-spot.ensures.finds c.in_default-2.is
 
-pub returns-then-pool-eq0 : goal.returns-then-pool-eq0
-returns-then-pool-eq0 c = prev-end c.in_ok-ready.ensures c.if-pool-eq0.true
-
-pub back-requires-clause-pool_value_2 : goal.back-requires-clause-pool_value_2
-back-requires-clause-pool_value_2 c =
-    let head = fits (goal.at.back-requires-clause-pool_value_2 c).In_ok-ready in
-    (head, after_one _ head c.if-pool-eq0.false)
+pub returns : goal.returns
+returns c = prev-back c.in_ok-ready.ensures c.in-Some.ensures c.in_ok-spot.ensures c.in-Some-2.is c.entry_at-value.ensures c.spot_before-behind.ensures c.rest.ensures

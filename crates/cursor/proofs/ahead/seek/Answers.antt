@@ -3,4 +3,4 @@ use Rattle.cursor.proofs.Nexts.{seeks-spot}
 use Rattle.cursor.proofs.ahead.seek.Goals as goal
 
 pub returns : goal.returns
-returns c = seeks-spot c.aim-from.ensures c.in_ok-seek.ensures c.spot_after.ensures
+returns c = seeks-spot c.aim.ensures c.in_ok-seek.ensures c.spot_after.ensures

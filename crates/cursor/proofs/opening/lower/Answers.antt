@@ -7,4 +7,4 @@ use Rattle.cursor.proofs.opening.lower.Goals as goal
 pub returns : goal.returns
 returns c =
     let a = c.args in
-    lower-meets a.kind a.key (c.by.ensures a.kind (lower_aim (bound_of a.kind a.key)) c.lower.ensures)
+    lower-meets a.bound.kind a.bound.key (c.by.ensures a.bound.kind (lower_aim (bound_of a.bound.kind a.bound.key)) c.lower.ensures)

@@ -7,4 +7,4 @@ use Rattle.cursor.proofs.opening.upper.Goals as goal
 pub returns : goal.returns
 returns c =
     let a = c.args in
-    upper-meets a.kind a.key (c.by.ensures a.kind (upper_aim (bound_of a.kind a.key)) c.upper.ensures)
+    upper-meets a.bound.kind a.bound.key (c.by.ensures a.bound.kind (upper_aim (bound_of a.bound.kind a.bound.key)) c.upper.ensures)

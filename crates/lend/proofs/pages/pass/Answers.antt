@@ -8,11 +8,11 @@ use Rattle.lend.proofs.pages.pass.Goals.{Else-not-can_pass}
 
 can : (c : Else-not-can_pass) →
     let a = c.args in
-    can_pass a.pool.now a.u a.i a.from a.fs a.fa a.to a.ts a.ta ≡ true
+    can_pass a.pool.now a.u a.i a.from.page a.from.slot a.from.child a.to.page a.to.slot a.to.child ≡ true
 can c = sym c.can_pass.ensures ∙ c.if-not-can_pass.false
 
 pub returns : goal.returns
 returns c =
     let a = c.args in
-    pass-done a.pool.now a.u a.i a.from a.fs a.fa a.to a.ts a.ta _ _ _ (can (goal.at.returns c).Else-not-can_pass) c.entry_at-between.ensures c.entry_at-moved.ensures c.child_at-child.ensures
+    pass-done a.pool.now a.u a.i a.from.page a.from.slot a.from.child a.to.page a.to.slot a.to.child _ _ _ (can (goal.at.returns c).Else-not-can_pass) c.entry_at-between.ensures c.entry_at-moved.ensures c.child_at-child.ensures
     c.insert.ensures c.set_entry.ensures c.remove.ensures

@@ -5,10 +5,12 @@ use borrow.Author.Tests.{leb-true, leb-false}
 use Rattle.model.specs.Layout.{head_words, most_pages, most_entries, first_word, word, today}
 use Rattle.model.specs.Head.{geometry_of}
 use Rattle.lend.specs.Pages.{least}
+use Rattle.tree.specs.Sits.{pages_of, slots_of}
 use Rattle.tree.specs.Insert.{frees_in}
 use Rattle.model.proofs.Basics.{front-word}
 use Rattle.model.proofs.Head.{head-facts}
 use Rattle.lend.proofs.Fitting.{headed-sized}
+use Rattle.tree.proofs.Paths.{pages-long}
 use Rattle.tree.proofs.Inserting.{Topped, topped-none, topped-long, topped-count, inserts-full, inserts-done}
 use Rattle.tree.proofs.insert.insert.Goals as goal
 use Rattle.tree.proofs.insert.insert.Goals.{Joined-insert_along, else-k-gt0-via-then-k-gt0+else-not-has_free, else-k-gt0-via-else-k-gt0, in-Some, in_default}
@@ -20,7 +22,7 @@ has_free-requires c = headed-sized c.args.pool.now c.requires.pool_value
 pub returns-then-not-has_free : goal.returns-then-not-has_free
 returns-then-not-has_free c =
     let a = c.args in
-    inserts-full a.pool.now a.pages.now a.slots.now (plain a.entry) c.needed-k.result c.needed-k.ensures
+    inserts-full a.pool.now (pages_of a.path.now) (slots_of a.path.now) (plain a.entry) c.needed-k.result c.needed-k.ensures
     (leb-false _ _ (sym c.has_free.ensures ∙ c.if-not-has_free.true))
 
 pub insert_along-requires-clause-sized : goal.insert_along-requires-clause-sized
@@ -30,13 +32,13 @@ pub new_root-requires : goal.new_root-requires
 unfolding geometry_of
 new_root-requires c =
     let z = headed-sized c.args.pool.now c.requires.pool_value in
-    omega (arith, c.insert_along.ensures.long, c.requires.pages_len, (head-facts c.args.pool.now c.requires.pool_value).levels)
+    omega (arith, c.insert_along.ensures.long, c.requires.path_len, (head-facts c.args.pool.now c.requires.pool_value).levels)
 
-topped : (c : Joined-insert_along) → Topped c.args.pages.now c.insert_along.result c.insert_along.new.pool c.match-insert_along.pool
+topped : (c : Joined-insert_along) → Topped (pages_of c.args.path.now) c.insert_along.result c.insert_along.new.pool c.match-insert_along.pool
 topped c =
     elim c.match-insert_along.branch [
-      | in-Some w ↦ rw (w.in-Some.is, w.pool-is, ← w.root_of.ensures) w.new_root.ensures
-      | in_default w ↦ topped-none c.args.pages.now c.insert_along.result c.insert_along.new.pool c.match-insert_along.pool w.in_default.not-Some w.pool-is
+      | in-Some w ↦ rw (w.in-Some.is, w.pool-is, pages-long c.args.path.now, ← w.root_of.ensures) w.new_root.ensures
+      | in_default w ↦ topped-none (pages_of c.args.path.now) c.insert_along.result c.insert_along.new.pool c.match-insert_along.pool w.in_default.not-Some w.pool-is
     ]
 
 stored : (c : Joined-insert_along)
@@ -48,9 +50,9 @@ stored c =
     let f = head-facts w c.requires.pool_value in
     omega (
       arith,
-      topped-long c.args.pages.now c.insert_along.result c.insert_along.new.pool c.match-insert_along.pool (topped c),
+      topped-long (pages_of c.args.path.now) c.insert_along.result c.insert_along.new.pool c.match-insert_along.pool (topped c),
       c.insert_along.ensures.long,
-      topped-count c.args.pages.now c.insert_along.result c.insert_along.new.pool c.match-insert_along.pool (topped c),
+      topped-count (pages_of c.args.path.now) c.insert_along.result c.insert_along.new.pool c.match-insert_along.pool (topped c),
       front-word head_words w c.insert_along.new.pool c.insert_along.ensures.head 2 (omega arith),
       f.count,
       f.most,
@@ -73,5 +75,5 @@ returns c =
       | else-k-gt0-via-then-k-gt0+else-not-has_free w ↦ leb-true _ _ (sym w.has_free.ensures ∙ w.if-not-has_free.false)
       | else-k-gt0-via-else-k-gt0 w ↦ omega (arith, w.if-k-gt0.false)
     ] in
-    inserts-done a.pool.now a.pages.now a.slots.now (plain a.entry) c.needed-k.result c.insert_along.new.pool c.insert_along.result c.match-insert_along.pool
-    c.requires.pool_value c.requires.pages_len c.needed-k.ensures enough c.insert_along.ensures (topped (goal.at.returns c).Joined-insert_along)
+    inserts-done a.pool.now (pages_of a.path.now) (slots_of a.path.now) (plain a.entry) c.needed-k.result c.insert_along.new.pool c.insert_along.result c.match-insert_along.pool
+    c.requires.pool_value (pages-long a.path.now ∙ c.requires.path_len) c.needed-k.ensures enough c.insert_along.ensures (topped (goal.at.returns c).Joined-insert_along)

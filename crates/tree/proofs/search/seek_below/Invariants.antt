@@ -6,7 +6,7 @@ use Rattle.tree.proofs.Seeking.{Rest}
 use Rattle.tree.proofs.search.seek_below.Given as goal
 
 abbrev pub invariant-loop-slot : goal.invariant-loop-slot
-invariant-loop-slot l = Rest l.pool l.p l.aim l.initial.pages l.initial.slots l.at l.i l.pages l.slots
+invariant-loop-slot l = Rest l.pool l.p l.aim l.initial.path l.at l.i l.path
 
 abbrev pub decreases-loop-slot : goal.decreases-loop-slot
-decreases-loop-slot l = length l.initial.pages - l.i
+decreases-loop-slot l = length l.initial.path - l.i

@@ -5,4 +5,4 @@ use Rattle.tree.proofs.Turning.{Along}
 use Rattle.tree.proofs.steps.next.Given as goal
 
 abbrev pub invariant-loop-i : goal.invariant-loop-i
-invariant-loop-i l = Along model.next forth l.pool l.initial.pages l.initial.slots l.pages l.slots l.i
+invariant-loop-i l = Along model.next forth l.pool l.initial.path l.path l.i

@@ -3,36 +3,40 @@ use mathlib.Core.Path.{ap, ◌∙◌}
 use Prim.Native.Nat.{◌-◌}
 use lib.ListN.{drop}
 use Rattle.std.specs.Prelude.{Ok}
+use Rattle.tree.specs.Sits.{pages_of, slots_of}
 use Rattle.tree.specs.Steps.{Back}
 use Rattle.tree.proofs.Searching.{exits}
 use Rattle.tree.proofs.Stepping.{backward}
-use Rattle.tree.proofs.Turning.{some-other, unsound-other, along-start, along-end, along-answer, along-prev, along-first}
+use Rattle.tree.proofs.Turning.{some-other, unsound-other, along-start, along-path, along-end, along-answer, along-prev, along-first}
 use Rattle.tree.proofs.steps.prev.Goals as goal
 use Rattle.tree.proofs.steps.prev.Goals.{After-over}
 
 -- after the step over the own entry of the page at hand
 stepped : (c : After-over) → let a = c.args in let i = c.loop-i.i - 1 in
-    Back a.pool.now (drop i a.pages.now) (drop i a.slots.now) c.over.new.pages c.over.new.slots c.over.result
+    Back a.pool.now (drop i (pages_of a.path.now)) (drop i (slots_of a.path.now)) (pages_of c.over.new.path) (slots_of c.over.new.path) c.over.result
 stepped c = along-prev c.requires.path_in c.loop-i.invariant c.loop-i-test.true c.if-s-eq0.false c.over.ensures
 
 pub loop-i-init : goal.loop-i-init
-loop-i-init c = along-start backward _ _ _
+loop-i-init c = along-start backward _ _
 
 pub loop-i-preserved-then-s-eq0 : goal.loop-i-preserved-then-s-eq0
 loop-i-preserved-then-s-eq0 c = along-first c.requires.path_in c.loop-i.invariant c.loop-i-test.true c.if-s-eq0.true
 
+pub over-requires-clause-path_in : goal.over-requires-clause-path_in
+over-requires-clause-path_in c = along-path backward c.requires.path_in c.loop-i.invariant c.loop-i-test.true
+
 pub returns-in_err-e : goal.returns-in_err-e
 returns-in_err-e c =
     rw (exits c.from_residual.ensures.0)
-    (along-answer backward c.requires.path_in c.loop-i.invariant c.loop-i-test.true c.in_err-e.was unsound-other
+    (along-answer backward c.requires.path_in c.loop-i.invariant c.loop-i-test.true _ c.in_err-e.was unsound-other
     (stepped (goal.at.returns-in_err-e c).After-over))
 
 pub returns-in-Some : goal.returns-in-Some
 returns-in-Some c =
-    along-answer backward c.requires.path_in c.loop-i.invariant c.loop-i-test.true (c.in_ok-e.was ∙ ap Ok c.in-Some.is) (some-other _)
+    along-answer backward c.requires.path_in c.loop-i.invariant c.loop-i-test.true _ (c.in_ok-e.was ∙ ap Ok c.in-Some.is) (some-other _)
     (stepped (goal.at.returns-in-Some c).After-over)
 
 pub loop-i-preserved : goal.loop-i-preserved
 loop-i-preserved c =
-    along-end backward c.requires.path_in c.loop-i.invariant c.loop-i-test.true (c.in_ok-e.was ∙ ap Ok c.in_default.is)
+    along-end backward c.requires.path_in c.loop-i.invariant c.loop-i-test.true _ (c.in_ok-e.was ∙ ap Ok c.in_default.is)
     (stepped (goal.at.loop-i-preserved c).After-over)

@@ -1,26 +1,26 @@
--- `steps::spot_before` meets its contract. The loop's invariant: the pages that are left give what the whole path
+-- `steps::spot_before` meets its contract. The loop's invariant: the spots that are left give what the whole path
 -- gives.
-use mathlib.Core.Path.{sym, ◌∙◌}
-use native.Mathlib.Omega.{arith}
-use Rattle.tree.proofs.Spots.{before_here, before-lost, before-past, before-none}
+use Rattle.std.proofs.Common.{sym, ◌∙◌}
+use Rattle.tree.proofs.Spots.{left-inside, before_here, before-lost, before-past, before-none}
 use Rattle.tree.proofs.steps.spot_before.Goals as goal
-use Rattle.tree.proofs.steps.spot_before.Goals.{else-s-gt0-via-then-s-gt0+else-holds, else-s-gt0-via-else-s-gt0}
+use Rattle.tree.proofs.steps.spot_before.Goals.{else-slot-gt0-via-then-slot-gt0+else-holds, else-slot-gt0-via-else-slot-gt0}
+
+pub page_at-requires : goal.page_at-requires
+page_at-requires c = left-inside c.loop-spot.invariant _ _ c.in-Some.ensures.steps
 
 pub returns-then-holds : goal.returns-then-holds
 returns-then-holds c =
-    let some = c.loop-i-test.true in
-    before_here c.requires c.loop-i.invariant (omega arith) c.if-s-gt0.true
+    before_here c.requires c.loop-spot.invariant _ _ c.in-Some.ensures.steps c.if-slot-gt0.true
     (rw c.page_at.ensures.result_value at (sym c.holds.ensures ∙ c.if-holds.true))
 
-pub loop-i-preserved : goal.loop-i-preserved
-loop-i-preserved c =
-    let some = c.loop-i-test.true in
-    elim c.else-s-gt0.branch [
-      | else-s-gt0-via-then-s-gt0+else-holds w ↦
-          before-lost c.requires c.loop-i.invariant (omega arith) w.if-s-gt0.true
+pub loop-spot-preserved : goal.loop-spot-preserved
+loop-spot-preserved c =
+    elim c.else-slot-gt0.branch [
+      | else-slot-gt0-via-then-slot-gt0+else-holds w ↦
+          before-lost c.requires c.loop-spot.invariant _ _ c.in-Some.ensures.steps w.if-slot-gt0.true
           (rw w.page_at.ensures.result_value at (sym w.holds.ensures ∙ w.if-holds.false))
-      | else-s-gt0-via-else-s-gt0 w ↦ before-past c.requires c.loop-i.invariant (omega arith) w.if-s-gt0.false
+      | else-slot-gt0-via-else-slot-gt0 w ↦ before-past c.requires c.loop-spot.invariant _ _ c.in-Some.ensures.steps w.if-slot-gt0.false
     ]
 
 pub returns : goal.returns
-returns c = let none = c.loop-i-test.false in before-none c.requires c.loop-i.invariant (omega arith)
+returns c = before-none c.requires c.loop-spot.invariant c.in-None.ensures.steps.0

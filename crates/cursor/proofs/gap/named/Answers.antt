@@ -1,7 +1,7 @@
--- `gap::aim` meets its contract: word 6 tells the start from a gap after an entry.
+-- `gap::named` meets its contract: the head has words for the gap.
 use native.Mathlib.Omega.{arith}
 use Rattle.lend.proofs.Fitting.{head-long}
-use Rattle.cursor.proofs.gap.aim.Goals as goal
+use Rattle.cursor.proofs.gap.named.Goals as goal
 
 pub bounds-pool-6 : goal.bounds-pool-6
 bounds-pool-6 c = let long = head-long _ c.requires in omega arith
