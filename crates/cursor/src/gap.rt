@@ -48,16 +48,12 @@ pub fn aim(pool: &[u64]) -> Aim
     }
 }
 
-// An open cursor's gap just behind the entry of a key, or at the start.
-pub fn lay(pool: &mut [u64], behind: Option<u64>)
+// The gap's words: whether the cursor is open, whether the gap is after an entry, and that entry's key.
+pub fn lay(pool: &mut [u64], opened: u64, after: u64, key: u64)
     requires { headed pool.old ≡ true }
-    ensures { pool.new ≡ laid_words behind pool.old }
+    ensures { pool.new ≡ gap_words opened after key pool.old }
 {
-    let (after, key) = match behind {
-        Some(key) => (1, key),
-        None => (0, 0),
-    };
-    pool[OPEN] = 1;
+    pool[OPEN] = opened;
     pool[AFTER] = after;
     pool[KEY] = key;
 }
@@ -67,9 +63,18 @@ pub fn clear(pool: &mut [u64])
     requires { headed pool.old ≡ true }
     ensures { pool.new ≡ gap_words 0 0 0 pool.old }
 {
-    pool[OPEN] = 0;
-    pool[AFTER] = 0;
-    pool[KEY] = 0;
+    lay(pool, 0, 0, 0);
+}
+
+// An open cursor's gap just behind the entry of a key, or at the start.
+pub fn lay_behind(pool: &mut [u64], behind: Option<u64>)
+    requires { headed pool.old ≡ true }
+    ensures { pool.new ≡ laid_words behind pool.old }
+{
+    match behind {
+        Some(key) => lay(pool, 1, 1, key),
+        None => lay(pool, 1, 0, 0),
+    }
 }
 
 // An open cursor's gap just behind the entry at a spot, or at the start.
@@ -81,8 +86,8 @@ pub fn rest(pool: &mut [u64], behind: Option<Spot>)
     match behind {
         Some(spot) => {
             let e = lend::pages::entry_at(pool, spot.page, spot.slot);
-            lay(pool, Some(e.key));
+            lay_behind(pool, Some(e.key));
         }
-        None => lay(pool, None),
+        None => lay_behind(pool, None),
     }
 }

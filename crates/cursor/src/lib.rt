@@ -31,7 +31,7 @@ pub fn next(pool: &mut [u64]) -> Result<Option<Entry>, Refusal>
         return Ok(None);
     };
     let e = lend::pages::entry_at(pool, spot.page, spot.slot);
-    gap::lay(pool, Some(e.key));
+    gap::lay_behind(pool, Some(e.key));
     Ok(Some(e))
 }
 

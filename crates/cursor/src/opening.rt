@@ -22,7 +22,7 @@ fn at(pool: &mut [u64], aim: Aim) -> Result<usize, Refusal>
     ensures { Opens aim (aim_read aim (levels_word pool.old)) pool.old pool.new result }
 {
     if let Aim::Start = aim {
-        gap::lay(pool, None);
+        gap::lay_behind(pool, None);
         return Ok(0);
     }
     let levels = lend::head::levels(pool);

@@ -116,7 +116,7 @@ module _ {A : Type 0} (kind : ℕ) {k x : ℕ} {answer : Pool → A} {still : Po
         still = λ z. contrary z b.1;
       })
 
-  insert-full : r ≡ Err reason.NoRoom → Meets (files kind k x answer still) w u (refused 7)
+  pub insert-full : r ≡ Err reason.NoRoom → Meets (files kind k x answer still) w u (refused 7)
   unfolding no_room
   insert-full e = let f = adds.full e in meets-stopped (λ w p. (refl, refl)) keeps pass 6 f.0 (inr refl) (λ s. rw ((f.1 s).0, (f.1 s).1))
 
@@ -139,11 +139,11 @@ module _ {k x : ℕ} {w u : List ℕ} {r : Result (std.Option Spot) Refusal} (pa
       (λ s. let o = overwritten w k h.1 writes s in record { passes = room-there w k o.0; answers = sym o.1; holds = o.2; still = λ z. contrary z refl })
 
 module _ {k : ℕ} {w u : List ℕ} {r : Result (std.Option Spot) Refusal} (pass : 0 ≡ refusal (change_tests set_kind w)) (adds : Adds k 0 w u r) where
-  set-insert-new : r ≡ Ok None → Meets (set_insert k) w u (answered true)
+  pub set-insert-new : r ≡ Ok None → Meets (set_insert k) w u (answered true)
   set-insert-new e = inserted_new set_kind (keeps-set-insert k) pass adds (λ s n. (rw n, n)) e
 
   -- its entry is like the one that it would have, so no word has changed
-  set-insert-present : {p i : ℕ} → r ≡ Ok (Some (spot p i)) → Meets (set_insert k) w u (answered false)
+  pub set-insert-present : {p i : ℕ} → r ≡ Ok (Some (spot p i)) → Meets (set_insert k) w u (answered false)
   unfolding pool_of
   set-insert-present {p} {i} e =
       let h = adds.here p i e in

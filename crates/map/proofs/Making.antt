@@ -1,16 +1,27 @@
--- Pools made, cleared and copied: what `lay` and copy leave, where they fill words with 0.
+-- Pools made, cleared and copied: words copied one after the other, and what `lay` and copy leave, where they fill
+-- words with 0.
 -- Assumes nothing.
-use mathlib.Core.Path.{◌≡◌, refl, ap, ◌∙◌}
+use mathlib.Core.Path.{◌≡◌, refl, sym, ap, ◌∙◌}
 use mathlib.Core.Bool.{true}
 use mathlib.Core.List.{List, ◌∷◌, ◌++◌}
-use Prim.Native.Nat.{ℕ, zero, suc, ◌≤◌}
+use Prim.Native.Nat.{ℕ, zero, suc, ◌+◌, ◌≤◌, ◌<◌}
+use native.Mathlib.Numerals.{add-one}
 use native.Mathlib.Omega.{arith}
-use lib.ListN.{replicate, length, take, drop, set, length-drop}
-use lib.Seq.{length-take-le, drop-drop}
+use lib.ListN.{replicate, length, take, drop, set, get_or, length-drop}
+use lib.Seq.{take_all, take-suc, take-suc-set, length-take-le, drop-drop}
 use Rattle.model.specs.Basics.{zeros}
 use Rattle.model.specs.Layout.{first_word, pages_in, allowed, today}
 use Rattle.model.specs.PoolCalls.{fresh, cursorless}
 use Rattle.model.proofs.Lawful.{allowed-facts}
+
+-- ---- words that become those of `target`, one after the other
+
+module _ (words target : List ℕ) (long : length target ≡ length words) where
+  pub laid_one : (i : ℕ) → i < length words → take i words ≡ take i target → take (i + 1) (set words i (get_or target i 0)) ≡ take (i + 1) target
+  laid_one i h e = let b : i < length target = omega arith in rw (add-one, take-suc-set, take-suc target i 0, e)
+
+  pub laid-all : (n : ℕ) → length words ≤ n → take n words ≡ take n target → words ≡ target
+  laid-all n h e = sym (take_all n words h) ∙ e ∙ take_all n target (omega arith)
 
 -- ---- words filled with 0
 

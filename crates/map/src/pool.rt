@@ -67,6 +67,16 @@ pub fn is_empty(pool: &[u64]) -> Result<bool, Refusal>
     Ok(count(pool)? == 0)
 }
 
+// Every word of the source. One by one, and no `copy_from_slice`: the archive would ask the C library for `memmove`.
+fn copy_words(source: &[u64], destination: &mut [u64])
+    requires { length source.now ≡ length destination.old }
+    ensures { destination.new ≡ source.now }
+{
+    for i in 0..source.len() {
+        destination[i] = source[i];
+    }
+}
+
 // Every word of the source but words 5 to 7, which become 0; the destination may hold anything.
 pub fn copy(source: &[u64], destination: &mut [u64]) -> Result<(), Refusal>
     ensures { Copies source.now destination.old destination.new (outcome_of itself result) }
@@ -85,7 +95,7 @@ pub fn copy(source: &[u64], destination: &mut [u64]) -> Result<(), Refusal>
             return Err(Refusal::Opened);
         }
     }
-    destination.copy_from_slice(source);
+    copy_words(source, destination);
     destination[OPEN..KIND].fill(0);
     Ok(())
 }

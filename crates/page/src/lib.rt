@@ -21,7 +21,8 @@ pub mod runs;
 
 // ---- reading
 
-// A page that can't be: its words are no page's of a sound pool, and nothing has been stored.
+// What a page refuses: its words are no page's of a sound pool, or it has no such slot, or no room. Nothing has been
+// stored.
 #[derive(Clone, Copy, Debug, PartialEq, Eq)]
 pub struct Unsound;
 

@@ -59,6 +59,8 @@ fn run_on(
     finish(rt, err, file, pool, reply)
 }
 
+// Not inlined: the other pool's words, a mebibyte, would then lie in the frame of every command.
+#[inline(never)]
 fn copy(rt: &(impl Files + Print), err: &impl Print, to: &[u8], pool: &[u64]) -> io::Result<()> {
     let mut words = [0; WORDS];
     let Some(other) = words.get_mut(..pool.len()) else {

@@ -5,10 +5,9 @@ use crate::lists::{self, Bounds};
 use map::bound::Bound;
 use map::refusal::{MAP, Refusal};
 use model::KIND;
-use std::alloc::{AllocError, Global};
 use table::word_at;
 
-fn step(pool: &mut [u64], name: &[u8]) -> Result<Ours, Refusal> {
+fn step(pool: &mut [u64], name: &[u8]) -> Result<Ours<'static>, Refusal> {
     let entry = match name {
         b"next" => cursor::next(pool)?,
         b"prev" => cursor::prev(pool)?,
@@ -22,38 +21,38 @@ fn step(pool: &mut [u64], name: &[u8]) -> Result<Ours, Refusal> {
     }))
 }
 
-fn given_none(pool: &mut [u64], name: &[u8]) -> Result<Ours, Refusal> {
+fn given_none(pool: &mut [u64], name: &[u8]) -> Result<Ours<'static>, Refusal> {
     match name {
-        b"len" => map::pool::count(pool).map(Ours::One),
-        b"is-empty" => map::pool::is_empty(pool).map(Ours::from),
-        b"clear" => map::pool::clear(pool).map(|()| Ours::Done),
-        b"close" => cursor::close(pool).map(|()| Ours::Done),
+        b"len" => Ok(Ours::One(map::pool::count(pool)?)),
+        b"is-empty" => Ok(Ours::from(map::pool::is_empty(pool)?)),
+        b"clear" => map::pool::clear(pool).and(Ok(Ours::Done)),
+        b"close" => cursor::close(pool).and(Ok(Ours::Done)),
         _ => step(pool, name),
     }
 }
 
-fn given_one(pool: &mut [u64], name: &[u8], a: u64) -> Result<Ours, Refusal> {
+fn given_one(pool: &mut [u64], name: &[u8], a: u64) -> Result<Ours<'static>, Refusal> {
     match name {
-        b"get" => map::get(pool, a).map(|got| Ours::from(got.value)),
-        b"contains" => map::contains(pool, a).map(|seen| Ours::from(seen.present)),
-        b"remove" => map::remove(pool, a).map(Ours::from),
-        b"write-next" => cursor::write_next(pool, a).map(Ours::from),
-        b"write-prev" => cursor::write_prev(pool, a).map(Ours::from),
+        b"get" => Ok(Ours::from(map::get(pool, a)?.value)),
+        b"contains" => Ok(Ours::from(map::contains(pool, a)?.present)),
+        b"remove" => Ok(Ours::from(map::remove(pool, a)?)),
+        b"write-next" => Ok(Ours::from(cursor::write_next(pool, a)?)),
+        b"write-prev" => Ok(Ours::from(cursor::write_prev(pool, a)?)),
         _ => Ok(Ours::Wrong),
     }
 }
 
-fn set_given_one(pool: &mut [u64], name: &[u8], key: u64) -> Result<Ours, Refusal> {
+fn set_given_one(pool: &mut [u64], name: &[u8], key: u64) -> Result<Ours<'static>, Refusal> {
     match name {
-        b"insert" => map::set::insert(pool, key).map(Ours::from),
-        b"get" => map::set::get(pool, key).map(|got| Ours::from(got.value)),
-        b"contains" => map::set::contains(pool, key).map(|seen| Ours::from(seen.present)),
-        b"remove" => map::set::remove(pool, key).map(Ours::from),
+        b"insert" => Ok(Ours::from(map::set::insert(pool, key)?)),
+        b"get" => Ok(Ours::from(map::set::get(pool, key)?.value)),
+        b"contains" => Ok(Ours::from(map::set::contains(pool, key)?.present)),
+        b"remove" => Ok(Ours::from(map::set::remove(pool, key)?)),
         _ => Ok(Ours::Wrong),
     }
 }
 
-fn insert_after(pool: &mut [u64], key: u64, value: u64) -> Result<Ours, Refusal> {
+fn insert_after(pool: &mut [u64], key: u64, value: u64) -> Result<Ours<'static>, Refusal> {
     match cursor::edit::insert_after(pool, key, value) {
         Ok(()) => Ok(Ours::Fits),
         Err(Refusal::Misplaced) => Ok(Ours::Misplaced),
@@ -61,36 +60,33 @@ fn insert_after(pool: &mut [u64], key: u64, value: u64) -> Result<Ours, Refusal>
     }
 }
 
-fn given_two(pool: &mut [u64], name: &[u8], a: u64, b: u64) -> Result<Ours, Refusal> {
+fn given_two(pool: &mut [u64], name: &[u8], a: u64, b: u64) -> Result<Ours<'static>, Refusal> {
     match name {
-        b"insert" => map::insert(pool, a, b).map(Ours::from),
-        b"replace" => map::replace(pool, a, b).map(Ours::from),
+        b"insert" => Ok(Ours::from(map::insert(pool, a, b)?)),
+        b"replace" => Ok(Ours::from(map::replace(pool, a, b)?)),
         b"insert-after" => insert_after(pool, a, b),
-        b"lower" => cursor::opening::lower(pool, Bound { kind: a, key: b }).map(|_| Ours::Done),
-        b"upper" => cursor::opening::upper(pool, Bound { kind: a, key: b }).map(|_| Ours::Done),
+        b"lower" => cursor::opening::lower(pool, Bound { kind: a, key: b }).and(Ok(Ours::Done)),
+        b"upper" => cursor::opening::upper(pool, Bound { kind: a, key: b }).and(Ok(Ours::Done)),
         _ => Ok(Ours::Wrong),
     }
 }
 
-// A set's `range` lists its keys.
-fn given_bounds(alloc: Global, pool: &[u64], name: &[u8], b: Bounds) -> Result<Ours, AllocError> {
+// Whether a line's answer is the list; a set's `range` lists its keys. Not inlined: its columns are then on the stack
+// only as long as it runs, and not below all that prints.
+#[inline(never)]
+fn tells_list(pool: &[u64], name: &[u8], b: Bounds, told: &[u8]) -> bool {
     match name {
-        b"range" if word_at(pool, KIND) == MAP => lists::entries(alloc, pool, b),
-        b"range" => lists::set_keys(alloc, pool, b),
-        b"keys" => lists::keys(alloc, pool, b),
-        b"values" => lists::values(alloc, pool, b),
-        _ => Ok(Ours::Wrong),
+        b"range" if word_at(pool, KIND) == MAP => lists::tells_entries(pool, b, told),
+        b"range" => lists::tells_set_keys(pool, b, told),
+        b"keys" => lists::tells_keys(pool, b, told),
+        b"values" => lists::tells_values(pool, b, told),
+        _ => false,
     }
 }
 
-// What a call answers, by its name and the numbers that it is given.
-pub fn call(
-    alloc: Global,
-    pool: &mut [u64],
-    name: &[u8],
-    numbers: &[u64],
-) -> Result<Ours, AllocError> {
-    let answer = match numbers {
+// Whether a line's answer is what a call answers, by its name and the numbers that it is given.
+pub fn tells(pool: &mut [u64], name: &[u8], numbers: &[u64], told: &[u8]) -> bool {
+    let ours = match numbers {
         [] => given_none(pool, name),
         [a] if word_at(pool, KIND) == MAP => given_one(pool, name, *a),
         [key] => set_given_one(pool, name, *key),
@@ -106,9 +102,9 @@ pub fn call(
                     key: *to,
                 },
             };
-            return given_bounds(alloc, pool, name, bounds);
+            return tells_list(pool, name, bounds, told);
         }
         _ => Ok(Ours::Wrong),
     };
-    Ok(answer.unwrap_or(Ours::Wrong))
+    ours.unwrap_or(Ours::Wrong).is_told(told)
 }

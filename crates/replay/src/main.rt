@@ -14,7 +14,6 @@ pub mod text;
 use crate::line::Line;
 use crate::tally::Tally;
 use map::refusal::{MAP, SET};
-use std::alloc::{AllocError, Global};
 use std::io;
 use table::UNTOUCHED;
 
@@ -25,12 +24,11 @@ const MOST: usize = 163840;
 const WORDS: usize = 8192;
 
 // Whether the answer to a call is std's. The list is given from what stands after the call's name on.
-fn is_right(alloc: Global, pool: &mut [u64], name: &[u8], text: &[u8]) -> Result<bool, AllocError> {
-    let Some(line) = Line::read(alloc, text)? else {
-        return Ok(false);
+fn is_right(pool: &mut [u64], name: &[u8], text: &[u8]) -> bool {
+    let Some(line) = Line::read(text) else {
+        return false;
     };
-    let ours = calls::call(alloc, pool, text::word(name), &line.numbers)?;
-    Ok(ours.is_told(line.answer))
+    calls::tells(pool, text::word(name), line.numbers.as_slice(), line.answer)
 }
 
 // A new map or set, whose line is the title of a section.
@@ -50,7 +48,7 @@ fn begin(
 
 // The line that the text begins with: a new map or set, or a call.
 fn replay_line<'a>(
-    rt: &(impl Alloc<A = Global> + Print),
+    rt: &impl Print,
     pool: &mut [u64],
     text: &'a [u8],
     tally: &mut Tally<'a>,
@@ -60,7 +58,7 @@ fn replay_line<'a>(
         b"set" => begin(rt, pool, text::line(text), SET, tally),
         _ => {
             let (name, rest) = text::cut(text);
-            tally.count(name, is_right(rt.alloc(), pool, name, rest)?)?;
+            tally.count(name, is_right(pool, name, rest));
             tally.look(pool);
             Ok(())
         }
@@ -69,9 +67,9 @@ fn replay_line<'a>(
 
 // Every line. Not by `lines` or `split`: a line is read from its start to the end of the text, since a word may stand
 // on the line after.
-fn replay(rt: &(impl Alloc<A = Global> + Print), text: &[u8]) -> io::Result<()> {
+fn replay(rt: &impl Print, text: &[u8]) -> io::Result<()> {
     let mut pool = [UNTOUCHED; WORDS];
-    let mut tally = Tally::new(rt.alloc());
+    let mut tally = Tally::new();
     let mut rest = text;
     while !rest.is_empty() {
         replay_line(rt, &mut pool, rest, &mut tally)?;

@@ -1,7 +1,6 @@
 // The table: for each section, each call's name, how many were replayed and how many answers differ; and over all
 // sections, with the pool's checks.
 use crate::text::word;
-use std::alloc::{AllocError, Global};
 use std::io;
 use std::num::Wrapping;
 
@@ -24,14 +23,25 @@ impl Figures {
     }
 }
 
-// Those of a call's name, as it stands in the list.
-#[derive(Clone, Copy)]
+// Those of a call's name, as it stands in the list. A row that counts no call yet is no name's.
+#[derive(Clone, Copy, Default)]
 struct Row<'a> {
     name: &'a [u8],
     figures: Figures,
 }
 
 impl Row<'_> {
+    fn is_free(&self) -> bool {
+        self.figures.calls.0 == 0
+    }
+
+    // Whether this is the word of its name. Nothing is looked at past the word, for names may be long.
+    fn has(&self, word: &[u8]) -> bool {
+        self.name
+            .strip_prefix(word)
+            .is_some_and(|rest| matches!(rest.first(), None | Some(0)))
+    }
+
     // No `Display`: a name is bytes as they stand in the list, which need not be text.
     fn write(self, rt: &impl Print) -> io::Result<()> {
         rt.write_all(b"  ")?;
@@ -41,18 +51,19 @@ impl Row<'_> {
     }
 }
 
-#[derive(Drop)]
+// The rows are an array and no `Vec`, the free ones last: counting can't want memory.
+#[derive(Clone, Copy)]
 pub struct Tally<'a> {
-    rows: Vec<Row<'a>>,
+    rows: [Row<'a>; MOST],
     all: Figures,
     checks: Wrapping<u64>,
     unsound: Wrapping<u64>,
 }
 
 impl<'a> Tally<'a> {
-    pub fn new(alloc: Global) -> Tally<'a> {
+    pub fn new() -> Tally<'a> {
         Tally {
-            rows: Vec::new(alloc),
+            rows: [Row::default(); MOST],
             all: Figures::default(),
             checks: Wrapping(0),
             unsound: Wrapping(0),
@@ -60,21 +71,17 @@ impl<'a> Tally<'a> {
     }
 
     // An answer that is std's, or isn't.
-    pub fn count(&mut self, name: &'a [u8], right: bool) -> Result<(), AllocError> {
+    pub fn count(&mut self, name: &'a [u8], right: bool) {
         self.all.count(right);
-        if let Some(row) = self
+        let word = word(name);
+        let found = self
             .rows
             .iter_mut()
-            .find(|row| word(row.name) == word(name))
-        {
+            .find(|row| row.is_free() || row.has(word));
+        if let Some(row) = found {
             row.name = name;
             row.figures.count(right);
-        } else if self.rows.len() < MOST {
-            let mut figures = Figures::default();
-            figures.count(right);
-            self.rows.push(Row { name, figures })?;
         }
-        Ok(())
     }
 
     // After every 64th call: whether the pool is sound.
@@ -90,10 +97,10 @@ impl<'a> Tally<'a> {
 
     // A section is over: its rows, which are then gone.
     pub fn end_section(&mut self, rt: &impl Print) -> io::Result<()> {
-        for row in &self.rows {
+        for row in self.rows.iter().filter(|row| !row.is_free()) {
             row.write(rt)?;
         }
-        self.rows.clear();
+        self.rows = [Row::default(); MOST];
         Ok(())
     }
 

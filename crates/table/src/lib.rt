@@ -2,13 +2,13 @@
 // Numbers at random (`random`), numbers in words, and input read into bytes that are there.
 #![tactic(auto)]
 
-ghost use Rattle.std.specs.Prelude.{◌≡◌, ◌<◌, ◌≤◌, length, IfOk, IfSome};
+ghost use Rattle.std.specs.Prelude.{◌≡◌, ◌-◌, ◌<◌, ◌≤◌, length, IfOk, IfSome};
+ghost use Rattle.std.specs.Iterator.{at_most};
 
 pub mod random;
 
-use std::alloc::{AllocError, Global};
-use std::io;
 use std::io::Read;
+use std::{io, mem};
 
 // The most places of a table.
 pub const PLACES: usize = 4096;
@@ -52,34 +52,41 @@ impl Held {
     }
 }
 
-// The value of each place's key, where the table has it. Past the last place there is none, and none is stored there.
+// The value of each place's key, where the table has it, in words that are lent. Past the last place there is none, and
+// none is stored there. A word of 0 says that its place has none, so no value is 0: with an `Option` a place, the
+// longest table would take twice the stack.
 #[derive(Drop)]
-pub struct Table {
-    values: Vec<Option<u64>>,
+pub struct Table<'a> {
+    words: &'a mut [u64],
 }
 
-impl Table {
-    pub fn new(alloc: Global, places: usize) -> Result<Table, AllocError> {
-        Ok(Table {
-            values: vec![in alloc; None; places]?,
-        })
+// The value that a word of the table has.
+fn value_of(word: u64) -> Option<u64> {
+    (word != 0).then_some(word)
+}
+
+impl<'a> Table<'a> {
+    // With a place for each word, and no entry.
+    pub fn new(words: &'a mut [u64]) -> Table<'a> {
+        words.fill(0);
+        Table { words }
     }
 
     pub fn places(&self) -> usize {
-        self.values.len()
+        self.words.len()
     }
 
     pub fn get(&self, place: usize) -> Option<u64> {
-        self.values.get(place).copied().flatten()
+        value_of(word_at(self.words, place))
     }
 
     // The value that the place had.
     pub fn insert(&mut self, place: usize, value: u64) -> Option<u64> {
-        self.values.get_mut(place)?.replace(value)
+        value_of(mem::replace(self.words.get_mut(place)?, value))
     }
 
     pub fn remove(&mut self, place: usize) -> Option<u64> {
-        self.values.get_mut(place)?.take()
+        value_of(mem::take(self.words.get_mut(place)?))
     }
 
     // The first entry from a place on.
@@ -103,20 +110,41 @@ impl Table {
     }
 
     // The entries from one place on, before another.
-    pub fn entries(
-        &self,
-        alloc: Global,
-        first: usize,
-        last: usize,
-    ) -> Result<Vec<Held>, AllocError> {
-        (first..last)
-            .filter_map(|place| self.entry(place))
-            .collect(alloc)
+    pub fn entries(&self, first: usize, last: usize) -> Entries<'_> {
+        Entries {
+            table: self,
+            first,
+            last,
+        }
     }
 
     // How many entries there are.
     pub fn count(&self) -> usize {
-        self.values.iter().filter(|value| value.is_some()).count()
+        self.words.iter().filter(|word| **word != 0).count()
+    }
+}
+
+// The entries of a table from one place on, before another, in order.
+#[derive(Clone, Copy)]
+pub struct Entries<'a> {
+    table: &'a Table<'a>,
+    first: usize,
+    last: usize,
+}
+
+impl Iterator for Entries<'_> {
+    type Item = Held;
+
+    ghost remaining = { λ entries. at_most (entries.last - entries.first) };
+
+    fn next(&mut self) -> Option<Held> {
+        let held = self.table.next_from(self.first)?;
+        if held.place < self.last {
+            self.first = held.place + 1;
+            Some(held)
+        } else {
+            None
+        }
     }
 }
 

@@ -1,5 +1,7 @@
 // Numbers at random, each from the one before it, and what is drawn from one: the same in every run.
 // The next one is made by shifts; what is drawn is some of a number's bits.
+ghost use Rattle.std.specs.Prelude.{◌-◌, ◌≤◌};
+
 use std::ops::Bound;
 
 const SEED: u64 = 88172645463325252;
@@ -20,7 +22,9 @@ impl Random {
     }
 
     // A number below n; 0 where there is none.
-    pub fn below(self, n: usize) -> usize {
+    pub fn below(self, n: usize) -> usize
+        ensures { result ≤ n - 1 }
+    {
         if n == 0 {
             return 0;
         }

@@ -160,7 +160,7 @@ unfolding here_before
 here-before w p zero l = absurd (omega arith)
 here-before w p (suc s) l = let e : suc s - 1 ≡ s = omega arith in rw e
 
-before-first : (w : List ℕ) (p s : ℕ) → s ≤ 0 → here_before w p s ≡ None
+pub before-first : (w : List ℕ) (p s : ℕ) → s ≤ 0 → here_before w p s ≡ None
 unfolding here_before
 before-first w p zero l = refl
 before-first w p (suc s) l = absurd (omega arith)

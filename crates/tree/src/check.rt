@@ -17,10 +17,10 @@ use page::Unsound;
 
 // What a walk has met so far: pages, entries and the last key.
 #[derive(Clone, Copy, Debug, PartialEq, Eq)]
-struct Tally {
-    pages: usize,
-    entries: usize,
-    last: u64,
+pub struct Tally {
+    pub pages: usize,
+    pub entries: usize,
+    pub last: u64,
 }
 
 // Whether page `p`, met after `pages` others, can be one of the pool's: there are more pages than those, it is taken,

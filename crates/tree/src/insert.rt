@@ -23,7 +23,7 @@ pub struct Up {
     pub child: u64,
 }
 
-// Why an insertion is refused: no page is free for it. No word has changed.
+// Why an insertion is refused: it needs more pages than are free. No word has changed.
 #[derive(Clone, Copy, Debug, PartialEq, Eq)]
 pub struct Full;
 

@@ -6,11 +6,10 @@ use crate::trial::{Kind, Trial};
 use map::refusal::Refusal;
 use map::{Got, Seen};
 use model::LEVELS;
-use std::alloc::AllocError;
 use table::random::Random;
 use table::{key_of, word_at};
 
-impl Trial<'_> {
+impl Trial<'_, '_> {
     // ---- insert, replace, remove
 
     fn insert(&mut self, place: usize, value: u64) {
@@ -118,69 +117,66 @@ impl Trial<'_> {
 
     // ---- lists
 
-    fn listed(&self, list: List, span: Span, random: Random) -> Result<Option<usize>, AllocError> {
-        lists::some(self.alloc, self.pool, list, span, &self.table, random)
+    fn listed(&self, list: List, span: Span, random: Random) -> Option<usize> {
+        lists::some(self.pool, list, span, &self.table, random)
     }
 
-    fn list(&mut self, list: List, span: Span, random: Random) -> Result<(), AllocError> {
-        let listed = self.listed(list, span, random)?;
+    fn list(&mut self, list: List, span: Span, random: Random) {
+        let listed = self.listed(list, span, random);
         self.tally.list(listed);
-        Ok(())
     }
 
-    fn list_map(&mut self, random: Random) -> Result<(), AllocError> {
+    fn list_map(&mut self, random: Random) {
         let span = Span::drawn(random, self.table.places());
         let other = random.next().next();
-        self.list(List::Entries, span, other)?;
-        self.list(List::Keys, span, other)?;
-        self.list(List::Values, span, other.next())
+        self.list(List::Entries, span, other);
+        self.list(List::Keys, span, other);
+        self.list(List::Values, span, other.next());
     }
 
-    fn list_set(&mut self, random: Random) -> Result<(), AllocError> {
+    fn list_set(&mut self, random: Random) {
         let span = Span::drawn(random, self.table.places());
-        self.list(List::SetKeys, span, random.next().next())
+        self.list(List::SetKeys, span, random.next().next());
     }
 
     // ---- at random
 
     // `filed` of 16 are insertions, then removals, and the last three a replacement, get and contains, and lists.
-    fn call_map(&mut self, random: Random, filed: u64) -> Result<(), AllocError> {
+    fn call_map(&mut self, random: Random, filed: u64) {
         let place = random.below(self.table.places());
         let what = random.sixteenth();
         if what < filed {
             self.insert(place, random.value());
-            return Ok(());
+            return;
         }
         match what {
             13 => self.replace(place, random.value()),
             14 => self.search_map(place),
-            15 => self.list_map(random.next())?,
+            15 => self.list_map(random.next()),
             _ => self.remove(place),
         }
-        Ok(())
     }
 
     // Of a set the last two are get and contains, and a list.
-    fn call_set(&mut self, random: Random, filed: u64) -> Result<(), AllocError> {
+    fn call_set(&mut self, random: Random, filed: u64) {
         let place = random.below(self.table.places());
         let what = random.sixteenth();
         if what < filed {
             self.set_insert(place);
-            return Ok(());
+            return;
         }
         match what {
             14 => self.search_set(place),
-            15 => self.list_set(random.next())?,
+            15 => self.list_set(random.next()),
             _ => self.set_remove(place),
         }
-        Ok(())
     }
 
-    pub fn call_at_random(&mut self, random: Random, filed: u64) -> Result<(), AllocError> {
+    pub fn call_at_random(&mut self, random: Random, filed: u64) {
         if self.plan.kind == Kind::Set {
-            self.call_set(random, filed)
+            self.call_set(random, filed);
         } else {
-            self.call_map(random, filed)
+            self.call_map(random, filed);
         }
     }
 }

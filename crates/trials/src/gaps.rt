@@ -6,10 +6,12 @@ use crate::trial::Trial;
 use map::refusal::Refusal;
 use model::LEVELS;
 use page::Entry;
-use std::alloc::AllocError;
 use std::ops::Bound;
 use table::random::Random;
-use table::{Held, key_of, word_at};
+use table::{Held, UNTOUCHED, key_of, word_at};
+
+// The most words of a column of playback.
+const SOME: usize = 24;
 
 // A place for a new key: seldom that of the entry before the gap, that of the entry after it, or any; else one from
 // `low` on and under `high`, where it fits.
@@ -35,7 +37,7 @@ fn shown(held: Option<Held>) -> Option<Entry> {
     })
 }
 
-impl Trial<'_> {
+impl Trial<'_, '_> {
     fn ahead(&self) -> Option<Held> {
         self.table.next_from(self.gap)
     }
@@ -139,14 +141,14 @@ impl Trial<'_> {
             Bound::Unbounded => 0,
             _ => word_at(self.pool, LEVELS),
         };
-        let read = cursor::opening::lower(self.pool, limit::at(bound));
+        let read = cursor::opening::lower(self.pool, limit::lower(bound));
         self.tally.hold(read == Ok(levels as usize));
         self.gap = lower_gap(bound);
     }
 
     fn open_upper(&mut self, bound: Bound<usize>) {
         let levels = word_at(self.pool, LEVELS);
-        let read = cursor::opening::upper(self.pool, limit::at(bound));
+        let read = cursor::opening::upper(self.pool, limit::upper(bound));
         self.tally.hold(read == Ok(levels as usize));
         self.gap = upper_gap(bound, self.end());
     }
@@ -164,30 +166,33 @@ impl Trial<'_> {
 
     // ---- playback
 
-    // The entries from the gap on, which goes over them, into columns of fewer than 25 words.
-    fn play(&mut self, random: Random) -> Result<(), AllocError> {
-        let keys = random.below(25);
-        let mut wrote = Columns::untouched(self.alloc, keys, random.next().below(25))?;
-        let end = self.end();
-        let entries = self.table.entries(self.alloc, self.gap, end)?;
+    // The entries from the gap on, which goes over them, into columns of lengths at random.
+    fn play(&mut self, random: Random) {
+        let mut keys = [UNTOUCHED; SOME];
+        let mut values = [UNTOUCHED; SOME];
+        let mut wrote = Columns {
+            keys: &mut keys[..random.below(SOME + 1)],
+            values: &mut values[..random.next().below(SOME + 1)],
+        };
         let told = wrote.play(self.pool);
-        let played = wrote.fitting(List::Entries, &entries);
-        let n = played.len();
-        let right = wrote.are_right(self.alloc, List::Entries, played)?;
+        let end = self.end();
+        let entries = self.table.entries(self.gap, end);
+        let n = wrote.fitting(List::Entries, entries);
+        let right = wrote.are_right(List::Entries, entries, n);
+        let last = entries.take(n).last();
         self.tally.hold(right && told == Ok(n));
         self.tally.listed += n as u64;
-        self.gap = played.last().map_or(self.gap, |held| held.end());
-        Ok(())
+        self.gap = last.map_or(self.gap, |held| held.end());
     }
 
     // ---- at random
 
     // `filed` of 16 are insertions, then removals, and the last seven the others.
-    pub fn move_at_random(&mut self, random: Random, filed: u64) -> Result<(), AllocError> {
+    pub fn move_at_random(&mut self, random: Random, filed: u64) {
         let what = random.sixteenth();
         if what < filed {
             self.insert_after(random);
-            return Ok(());
+            return;
         }
         match what {
             0..=8 => self.remove_next(),
@@ -196,8 +201,7 @@ impl Trial<'_> {
             11 => self.next(),
             12 => self.prev(),
             13 | 14 => self.reopen(random),
-            _ => self.play(random)?,
+            _ => self.play(random),
         }
-        Ok(())
     }
 }

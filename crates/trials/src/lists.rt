@@ -3,10 +3,9 @@
 use crate::limit::{self, lower_gap, upper_gap};
 use map::bound;
 use map::refusal::Refusal;
-use std::alloc::{AllocError, Global};
 use std::ops::Bound;
 use table::random::Random;
-use table::{Held, PLACES, Table, UNTOUCHED};
+use table::{Entries, PLACES, Table, UNTOUCHED};
 
 #[derive(Clone, Copy)]
 pub struct Bounds {
@@ -44,60 +43,58 @@ impl List {
 
 // ---- columns
 
-// Keys and values apart, as the calls write them.
-#[derive(PartialEq, Eq, Drop)]
-pub struct Columns {
-    pub keys: Vec<u64>,
-    pub values: Vec<u64>,
+// Keys and values apart, as the calls write them, in words that are lent and UNTOUCHED at first.
+#[derive(Drop)]
+pub struct Columns<'a> {
+    pub keys: &'a mut [u64],
+    pub values: &'a mut [u64],
 }
 
-impl Columns {
-    pub fn untouched(alloc: Global, keys: usize, values: usize) -> Result<Columns, AllocError> {
-        Ok(Columns {
-            keys: vec![in alloc; UNTOUCHED; keys]?,
-            values: vec![in alloc; UNTOUCHED; values]?,
-        })
-    }
+// Whether no word of a column from a place on is written.
+fn is_untouched(column: &[u64], place: usize) -> bool {
+    column.iter().skip(place).all(|word| *word == UNTOUCHED)
+}
 
-    // The entries that a list has room for: as many as the shorter column has words, or its one column.
-    pub fn fitting<'a>(&self, list: List, entries: &'a [Held]) -> &'a [Held] {
+impl Columns<'_> {
+    // How many of these entries a list has room for: as many as the shorter column has words, or its one column.
+    pub fn fitting(&self, list: List, entries: Entries<'_>) -> usize {
         let room = match list {
             List::Entries => self.keys.len().min(self.values.len()),
             List::Values => self.values.len(),
             List::Keys | List::SetKeys => self.keys.len(),
         };
-        &entries[..room.min(entries.len())]
+        entries.take(room).count()
+    }
+
+    // Has a list written into them.
+    fn list(&mut self, pool: &[u64], list: List, bounds: Bounds) -> Result<usize, Refusal> {
+        list.write(pool, bounds, self.keys, self.values)
     }
 
     // Plays back into them.
     pub fn play(&mut self, pool: &mut [u64]) -> Result<usize, Refusal> {
-        cursor::play::play(pool, &mut self.keys, &mut self.values)
+        cursor::play::play(pool, self.keys, self.values)
     }
 
-    // As a list is to leave them.
-    fn fill(&mut self, list: List, entries: &[Held]) {
-        if list != List::Values {
-            for (word, held) in self.keys.iter_mut().zip(entries) {
-                *word = held.key();
-            }
-        }
-        if list == List::Entries || list == List::Values {
-            for (word, held) in self.values.iter_mut().zip(entries) {
-                *word = held.value;
-            }
-        }
-    }
-
-    // Whether these entries are in columns that nothing else was written to.
-    pub fn are_right(
-        &self,
-        alloc: Global,
-        list: List,
-        entries: &[Held],
-    ) -> Result<bool, AllocError> {
-        let mut right = Columns::untouched(alloc, self.keys.len(), self.values.len())?;
-        right.fill(list, entries);
-        Ok(*self == right)
+    // Whether the first n of these entries are in columns that nothing else was written to.
+    pub fn are_right(&self, list: List, entries: Entries<'_>, n: usize) -> bool {
+        let keys = if list == List::Values { 0 } else { n };
+        let values = if list == List::Entries || list == List::Values {
+            n
+        } else {
+            0
+        };
+        self.keys
+            .iter()
+            .zip(entries.take(keys))
+            .all(|(word, held)| *word == held.key())
+            && self
+                .values
+                .iter()
+                .zip(entries.take(values))
+                .all(|(word, held)| *word == held.value)
+            && is_untouched(self.keys, keys)
+            && is_untouched(self.values, values)
     }
 }
 
@@ -124,46 +121,37 @@ impl Span {
     }
 
     // How many entries a list wrote, where they are the table's.
-    pub fn list(
+    fn list(
         self,
-        alloc: Global,
         pool: &[u64],
         list: List,
-        table: &Table,
-        columns: Columns,
-    ) -> Result<Option<usize>, AllocError> {
-        let mut wrote = columns;
+        table: &Table<'_>,
+        columns: Columns<'_>,
+    ) -> Option<usize> {
         let bounds = Bounds {
-            lower: limit::at(self.lower),
-            upper: limit::at(self.upper),
+            lower: limit::lower(self.lower),
+            upper: limit::upper(self.upper),
         };
-        let told = list.write(pool, bounds, &mut wrote.keys, &mut wrote.values);
+        let mut wrote = columns;
+        let told = wrote.list(pool, list, bounds);
         let last = upper_gap(self.upper, table.places());
-        let entries = table.entries(alloc, lower_gap(self.lower), last)?;
-        let written = wrote.fitting(list, &entries);
-        let n = written.len();
-        if wrote.are_right(alloc, list, written)? && told == Ok(n) {
-            Ok(Some(n))
-        } else {
-            Ok(None)
-        }
+        let entries = table.entries(lower_gap(self.lower), last);
+        let n = wrote.fitting(list, entries);
+        (told == Ok(n) && wrote.are_right(list, entries, n)).then_some(n)
     }
 }
 
-// The whole list, with room to spare.
-pub fn whole(
-    alloc: Global,
-    pool: &[u64],
-    list: List,
-    table: &Table,
-) -> Result<Option<usize>, AllocError> {
-    WHOLE.list(
-        alloc,
-        pool,
-        list,
-        table,
-        Columns::untouched(alloc, PLACES, PLACES)?,
-    )
+// The whole list, with room to spare. Not inlined, for the stack's sake: else the columns would lie in the frame of a
+// caller, and once more in that of another that it calls.
+#[inline(never)]
+pub fn whole(pool: &[u64], list: List, table: &Table<'_>) -> Option<usize> {
+    let mut keys = [UNTOUCHED; PLACES];
+    let mut values = [UNTOUCHED; PLACES];
+    let columns = Columns {
+        keys: &mut keys,
+        values: &mut values,
+    };
+    WHOLE.list(pool, list, table, columns)
 }
 
 // ---- at random
@@ -171,31 +159,24 @@ pub fn whole(
 // The most words of a column of a length at random.
 const ROOM: usize = 256;
 
-// Columns of lengths at random, of as many words as the table has places or fewer.
-fn random_columns(
-    alloc: Global,
+// A list between bounds, into columns of lengths at random, of as many words as the table has places or fewer.
+pub fn some(
+    pool: &[u64],
     list: List,
-    places: usize,
+    span: Span,
+    table: &Table<'_>,
     random: Random,
-) -> Result<Columns, AllocError> {
+) -> Option<usize> {
     let other = if list == List::Entries {
         random.next()
     } else {
         random
     };
-    let keys = random.below(places).min(ROOM);
-    Columns::untouched(alloc, keys, other.below(places).min(ROOM))
-}
-
-// A list between bounds, into columns of lengths at random.
-pub fn some(
-    alloc: Global,
-    pool: &[u64],
-    list: List,
-    span: Span,
-    table: &Table,
-    random: Random,
-) -> Result<Option<usize>, AllocError> {
-    let columns = random_columns(alloc, list, table.places(), random)?;
-    span.list(alloc, pool, list, table, columns)
+    let mut keys = [UNTOUCHED; ROOM];
+    let mut values = [UNTOUCHED; ROOM];
+    let columns = Columns {
+        keys: &mut keys[..random.below(table.places()).min(ROOM)],
+        values: &mut values[..other.below(table.places()).min(ROOM)],
+    };
+    span.list(pool, list, table, columns)
 }

@@ -16,16 +16,12 @@ pub mod tally;
 pub mod told;
 pub mod trial;
 
-use crate::trial::{Kind, Plan};
-use std::alloc::Global;
+use crate::trial::{Kind, Plan, WORDS};
 use std::io;
 use table::UNTOUCHED;
 
-// Bytes of the longest script, and words of the longest pool of the trials. The bytes are an array and no `Vec`: what
-// is longer is cut off, and reading can't want memory.
+// Bytes of the longest script; what is longer is cut off.
 const MOST: usize = 8192;
-
-const WORDS: usize = 8192;
 
 fn plan(kind: Kind, words: usize, calls: u64, places: usize) -> Plan {
     Plan {
@@ -55,10 +51,10 @@ fn plans() -> [Plan; 13] {
 }
 
 // Each trial makes its pool in the words that the one before it left.
-fn trials(rt: &(impl Alloc<A = Global> + Print)) -> io::Result<()> {
+fn trials(rt: &impl Print) -> io::Result<()> {
     let mut words = [UNTOUCHED; WORDS];
     for plan in plans() {
-        trial::run(rt, rt.alloc(), &mut words, plan)?;
+        trial::run(rt, &mut words, plan)?;
     }
     Ok(())
 }

@@ -4,7 +4,7 @@
 ghost use Rattle.std.specs.Prelude.{◌≤◌, length};
 
 use crate::calls::Call;
-use crate::limit::{UNBOUNDED, included};
+use crate::limit::{FROM_START, TO_END, included};
 use crate::lists::{Bounds, List};
 use crate::pages::page;
 use crate::space::{Part, Space, copy_in};
@@ -80,14 +80,14 @@ fn keys(pool: &[u64], lower: Bound, upper: Bound) -> Result<usize, Refusal> {
 // How many there are before the gap, up to the entry that a peek shows there, and after it.
 fn before(pool: &[u64]) -> Result<usize, Refusal> {
     match cursor::peek_prev(pool)? {
-        Some(entry) => keys(pool, UNBOUNDED, included(entry.key)),
+        Some(entry) => keys(pool, FROM_START, included(entry.key)),
         None => Ok(0),
     }
 }
 
 fn after(pool: &[u64]) -> Result<usize, Refusal> {
     match cursor::peek_next(pool)? {
-        Some(entry) => keys(pool, included(entry.key), UNBOUNDED),
+        Some(entry) => keys(pool, included(entry.key), TO_END),
         None => Ok(0),
     }
 }

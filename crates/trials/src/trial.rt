@@ -4,11 +4,13 @@ use crate::lists::{self, List};
 use crate::tally::Tally;
 use map::refusal::{MAP, SET};
 use model::{COUNT, LEVELS};
-use std::alloc::{AllocError, Global};
 use std::ops::Bound;
 use std::{fmt, io};
 use table::random::Random;
-use table::{Table, UNTOUCHED, word_at};
+use table::{PLACES, Table, UNTOUCHED, word_at};
+
+// Words of the longest pool of the trials.
+pub const WORDS: usize = 8192;
 
 // What the calls are made on.
 #[derive(Clone, Copy, PartialEq, Eq)]
@@ -65,11 +67,10 @@ impl Plan {
 
 // A trial on the way: the cursor's gap is a place of the table, and the entries below it come before it.
 #[derive(Drop)]
-pub struct Trial<'a> {
-    pub alloc: Global,
+pub struct Trial<'a, 'b> {
     pub plan: Plan,
     pub pool: &'a mut [u64],
-    pub table: Table,
+    pub table: Table<'b>,
     pub gap: usize,
     pub tally: Tally,
 }
@@ -77,14 +78,14 @@ pub struct Trial<'a> {
 // ---- the pool
 
 // Whether a pool says that it is sound and holds the table's entries.
-fn stands(pool: &[u64], table: &Table) -> bool {
+fn stands(pool: &[u64], table: &Table<'_>) -> bool {
     let n = table.count() as u64;
     map::pool::check(pool)
         && map::pool::is_empty(pool) == Ok(n == 0)
         && map::pool::count(pool) == Ok(n)
 }
 
-impl Trial<'_> {
+impl Trial<'_, '_> {
     fn stands(&self) -> bool {
         stands(self.pool, &self.table)
     }
@@ -94,56 +95,58 @@ impl Trial<'_> {
         self.tally.hold(stands);
     }
 
-    fn whole(&self) -> Result<Option<usize>, AllocError> {
-        lists::whole(self.alloc, self.pool, self.plan.list(), &self.table)
+    fn whole(&self) -> Option<usize> {
+        lists::whole(self.pool, self.plan.list(), &self.table)
     }
 
     // And its whole list is the table's.
-    fn look_whole(&mut self) -> Result<(), AllocError> {
+    fn look_whole(&mut self) {
         self.look();
-        let listed = self.whole()?;
+        let listed = self.whole();
         self.tally.list(listed);
-        Ok(())
     }
 
     // A copy over other words is sound and has the same list; cleared, it holds nothing and lists nothing.
-    fn look_copied(&mut self) -> Result<(), AllocError> {
-        let alloc = self.alloc;
+    fn look_copied(&mut self) {
+        let mut words = [UNTOUCHED; WORDS];
+        match words.get_mut(..self.pool.len()) {
+            Some(copy) => self.look_copied_to(copy),
+            None => self.tally.hold(false),
+        }
+    }
+
+    fn look_copied_to(&mut self, copy: &mut [u64]) {
         let list = self.plan.list();
-        let mut copy = vec![in alloc; UNTOUCHED; self.pool.len()]?;
-        let copied = map::pool::copy(self.pool, &mut copy);
+        let copied = map::pool::copy(self.pool, copy);
         self.tally.hold(copied == Ok(()));
-        self.tally.hold(stands(&copy, &self.table));
-        self.tally
-            .list(lists::whole(alloc, &copy, list, &self.table)?);
-        let none = Table::new(alloc, 0)?;
-        self.tally.hold(map::pool::clear(&mut copy) == Ok(()));
-        self.tally.hold(stands(&copy, &none));
-        self.tally.list(lists::whole(alloc, &copy, list, &none)?);
-        Ok(())
+        self.tally.hold(stands(copy, &self.table));
+        self.tally.list(lists::whole(copy, list, &self.table));
+        let none = Table::new(&mut []);
+        self.tally.hold(map::pool::clear(copy) == Ok(()));
+        self.tally.hold(stands(copy, &none));
+        self.tally.list(lists::whole(copy, list, &none));
     }
 
     // ---- calls
 
     // After call i: of a cursor the peeks and, every 256th time, the pool and its whole list; of a pool every 32nd time
     // whether it stands, every 128th a copy and its whole list.
-    fn look_after(&mut self, i: u64) -> Result<(), AllocError> {
+    fn look_after(&mut self, i: u64) {
         if self.plan.kind == Kind::Cursor {
             self.look_beside();
             if i % 256 == 255 {
-                self.look_whole()?;
+                self.look_whole();
             }
         } else if i % 32 == 0 {
             self.look();
             if i % 128 == 0 {
-                self.look_copied()?;
+                self.look_copied();
             }
         }
-        Ok(())
     }
 
     // The calls of a part; before a cursor's first call it is closed, and opened at the start.
-    fn run_part(&mut self, part: u64) -> Result<(), AllocError> {
+    fn run_part(&mut self, part: u64) {
         let mut random = Random::first(part);
         if self.plan.kind == Kind::Cursor {
             self.close();
@@ -153,18 +156,17 @@ impl Trial<'_> {
             let i = part.wrapping_mul(self.plan.calls).wrapping_add(at);
             let filed = self.plan.filed(part, i);
             if self.plan.kind == Kind::Cursor {
-                self.move_at_random(random, filed)?;
+                self.move_at_random(random, filed);
             } else {
-                self.call_at_random(random, filed)?;
+                self.call_at_random(random, filed);
             }
-            self.look_after(i)?;
+            self.look_after(i);
             random = random.next();
         }
-        Ok(())
     }
 
     // A pool made in words that held something else; after the last call a cursor is closed.
-    fn run(&mut self) -> Result<(), AllocError> {
+    fn run(&mut self) {
         let kind = if self.plan.kind == Kind::Set {
             SET
         } else {
@@ -174,13 +176,12 @@ impl Trial<'_> {
         self.tally.hold(made == Ok(()));
         self.look();
         for part in 0..self.plan.parts() {
-            self.run_part(part)?;
+            self.run_part(part);
         }
         if self.plan.kind == Kind::Cursor {
             self.close();
-            self.look_whole()?;
+            self.look_whole();
         }
-        Ok(())
     }
 
     // ---- the line that it prints
@@ -215,18 +216,19 @@ impl Trial<'_> {
 }
 
 // A trial in the first of some words.
-pub fn run(rt: &impl Print, alloc: Global, words: &mut [u64], plan: Plan) -> io::Result<()> {
-    let Some(pool) = words.get_mut(..plan.words) else {
+pub fn run(rt: &impl Print, words: &mut [u64], plan: Plan) -> io::Result<()> {
+    let mut values = [0; PLACES];
+    let (Some(pool), Some(values)) = (words.get_mut(..plan.words), values.get_mut(..plan.places))
+    else {
         return Ok(());
     };
     let mut trial = Trial {
-        alloc,
         plan,
         pool,
-        table: Table::new(alloc, plan.places)?,
+        table: Table::new(values),
         gap: 0,
         tally: Tally::default(),
     };
-    trial.run()?;
+    trial.run();
     trial.report(rt)
 }

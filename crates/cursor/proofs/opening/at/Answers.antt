@@ -5,7 +5,7 @@ use Rattle.cursor.proofs.Opens.{opens-start, opens-unsound, opens-sought}
 use Rattle.cursor.proofs.opening.at.Goals as goal
 
 pub returns-in-Start : goal.returns-in-Start
-returns-in-Start c = opens-start c.in-Start.is c.lay.ensures
+returns-in-Start c = opens-start c.in-Start.is c.lay_behind.ensures
 
 pub returns-in_err-seek : goal.returns-in_err-seek
 returns-in_err-seek c = rw (err-same c.from_residual.ensures) (opens-unsound c.in_err-seek.ensures)

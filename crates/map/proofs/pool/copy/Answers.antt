@@ -70,7 +70,7 @@ passed c fits long =
 pub slice_bounds-fill-end : goal.slice_bounds-fill-end
 slice_bounds-fill-end c =
     let long = head-long _ (fitting (goal.at.slice_bounds-fill-end c).Else-not-fits) in
-    let copied = ap length c.copy_from_slice.ensures.after in
+    let copied = ap length c.copy_words.ensures in
     search rules
 
 pub returns : goal.returns
@@ -78,4 +78,4 @@ returns c =
     let a = c.args in
     let fits = fitting (goal.at.returns c).Else-not-fits in
     exact-done (passed (goal.at.returns c).Joined-fits fits (sized (goal.at.returns c).Else-not-allowed))
-    (copied-cursorless a.source.now _ _ (head-long _ fits) c.copy_from_slice.ensures.after (c.fill.ensures.after (λ y e. e)))
+    (copied-cursorless a.source.now _ _ (head-long _ fits) c.copy_words.ensures (c.fill.ensures.after (λ y e. e)))
