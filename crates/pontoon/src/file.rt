@@ -59,7 +59,7 @@ fn run_on(
     finish(rt, err, file, pool, reply)
 }
 
-// Not inlined: the other pool's words, a mebibyte, would then lie in the frame of every command.
+// Not inlined: the other pool's words, a mebibyte, would then lie in the frame of every command on a file.
 #[inline(never)]
 fn copy(rt: &(impl Files + Print), err: &impl Print, to: &[u8], pool: &[u64]) -> io::Result<()> {
     let mut words = [0; WORDS];
@@ -103,6 +103,8 @@ fn on(
     }
 }
 
+// Not inlined: the pool's words, a mebibyte, would then lie below the sample and all that is complained of, too.
+#[inline(never)]
 pub fn act(
     rt: &(impl Files + Print),
     err: &impl Print,
