@@ -2,13 +2,17 @@
 // Numbers at random (`random`), numbers in words, and input read into bytes that are there.
 #![tactic(auto)]
 
-ghost use Rattle.std.specs.Prelude.{◌≡◌, ◌-◌, ◌<◌, ◌≤◌, length, IfOk, IfSome};
+ghost use Rattle.std.specs.Prelude.{◌≡◌, ◌-◌, ◌<◌, ◌≤◌, ℕ, List, Option, length, get_or, set, replicate, None, Some, IfOk, IfSome};
 ghost use Rattle.std.specs.Iterator.{at_most};
 
 pub mod random;
+pub mod values;
 
+use std::alloc::{AllocError, Global};
+use std::io;
 use std::io::Read;
-use std::{io, mem};
+use std::marker::Model;
+use values::{Lent, Values};
 
 // The most places of a table.
 pub const PLACES: usize = 4096;
@@ -22,7 +26,9 @@ pub fn key_of(place: usize) -> u64 {
 }
 
 // The word at a place; 0 past the end.
-pub fn word_at(words: &[u64], place: usize) -> u64 {
+pub fn word_at(words: &[u64], place: usize) -> u64
+    ensures { result ≡ get_or words.now place 0 }
+{
     words.get(place).copied().unwrap_or_default()
 }
 
@@ -52,41 +58,66 @@ impl Held {
     }
 }
 
-// The value of each place's key, where the table has it, in words that are lent. Past the last place there is none, and
-// none is stored there. A word of 0 says that its place has none, so no value is 0: with an `Option` a place, the
-// longest table would take twice the stack.
+// The value of each place's key, where the table has it. Past the last place there is none, and none is stored there.
 #[derive(Drop)]
-pub struct Table<'a> {
-    words: &'a mut [u64],
+pub struct Table<V: Values = Vec<Option<u64>>> {
+    values: V,
 }
 
-// The value that a word of the table has.
-fn value_of(word: u64) -> Option<u64> {
-    (word != 0).then_some(word)
+impl<V: Values> Model for Table<V> {
+    ghost Value = { List (Option ℕ) };
+
+    ghost view = { λ table. V.at_places table.values };
 }
 
-impl<'a> Table<'a> {
+impl Table {
+    // With so many places, and no entry.
+    pub fn new(alloc: Global, places: usize) -> Result<Table, AllocError>
+        ensures { IfOk result (λ table. table ≡ replicate places None) }
+    {
+        Ok(Table {
+            values: vec![in alloc; None; places]?,
+        })
+    }
+}
+
+impl<'a> Table<Lent<'a>> {
     // With a place for each word, and no entry.
-    pub fn new(words: &'a mut [u64]) -> Table<'a> {
-        words.fill(0);
-        Table { words }
+    pub fn lent(words: &'a mut [u64]) -> Table<Lent<'a>>
+        ensures { result ≡ replicate (length words.old) None }
+    {
+        Table {
+            values: Lent::new(words),
+        }
+    }
+}
+
+impl<V: Values> Table<V> {
+    pub fn places(&self) -> usize
+        ensures { result ≡ length self.now }
+    {
+        self.values.places()
     }
 
-    pub fn places(&self) -> usize {
-        self.words.len()
+    pub fn get(&self, place: usize) -> Option<u64>
+        ensures { result ≡ get_or self.now place None }
+    {
+        self.values.at(place)
     }
 
-    pub fn get(&self, place: usize) -> Option<u64> {
-        value_of(word_at(self.words, place))
+    // The value that the place had. Where words are lent, a value of 0 leaves it without one.
+    pub fn insert(&mut self, place: usize, value: u64) -> Option<u64>
+        ensures had { result ≡ get_or self.old place None }
+        ensures has { self.new ≡ set self.old place (V.kept (Some value)) }
+    {
+        self.values.store(place, Some(value))
     }
 
-    // The value that the place had.
-    pub fn insert(&mut self, place: usize, value: u64) -> Option<u64> {
-        value_of(mem::replace(self.words.get_mut(place)?, value))
-    }
-
-    pub fn remove(&mut self, place: usize) -> Option<u64> {
-        value_of(mem::take(self.words.get_mut(place)?))
+    pub fn remove(&mut self, place: usize) -> Option<u64>
+        ensures had { result ≡ get_or self.old place None }
+        ensures has { self.new ≡ set self.old place (V.kept None) }
+    {
+        self.values.store(place, None)
     }
 
     // The first entry from a place on.
@@ -110,7 +141,7 @@ impl<'a> Table<'a> {
     }
 
     // The entries from one place on, before another.
-    pub fn entries(&self, first: usize, last: usize) -> Entries<'_> {
+    pub fn entries(&self, first: usize, last: usize) -> Entries<'_, V> {
         Entries {
             table: self,
             first,
@@ -119,20 +150,22 @@ impl<'a> Table<'a> {
     }
 
     // How many entries there are.
-    pub fn count(&self) -> usize {
-        self.words.iter().filter(|word| **word != 0).count()
+    pub fn count(&self) -> usize
+        ensures { result ≤ length self.now }
+    {
+        self.values.count()
     }
 }
 
-// The entries of a table from one place on, before another, in order.
-#[derive(Clone, Copy)]
-pub struct Entries<'a> {
-    table: &'a Table<'a>,
+// The entries of a table from one place on, before another, in order. A copy shares the table.
+#[derive_where(Clone, Copy)]
+pub struct Entries<'a, V: Values> {
+    table: &'a Table<V>,
     first: usize,
     last: usize,
 }
 
-impl Iterator for Entries<'_> {
+impl<V: Values> Iterator for Entries<'_, V> {
     type Item = Held;
 
     ghost remaining = { λ entries. at_most (entries.last - entries.first) };
@@ -162,4 +195,51 @@ pub fn read_full(input: &mut impl Read, bytes: &mut [u8]) -> io::Result<usize>
         n += more;
     }
     Ok(n)
+}
+
+#[cfg(test)]
+mod tests {
+    use super::*;
+    use std::test::Fail;
+
+    // 0 too, and past the last place none.
+    #[test]
+    fn a_table_of_its_own_holds_any_value(rt: HostRuntime) -> Result<(), Fail> {
+        let mut table = Table::new(rt.alloc(), 4)?;
+        assert_eq!(rt; table.places(), 4);
+        assert_eq!(rt; table.count(), 0);
+        for (place, value) in [(1, 0), (3, u64::MAX), (4, 7)] {
+            assert_eq!(rt; table.insert(place, value), None, "at {place}");
+        }
+        for (place, value) in [(0, None), (1, Some(0)), (3, Some(u64::MAX)), (4, None)] {
+            assert_eq!(rt; table.get(place), value, "at {place}");
+        }
+        assert_eq!(rt; table.count(), 2);
+        assert_eq!(rt; table.next_from(1).map(|held| held.value), Some(0));
+        assert_eq!(rt; table.last_before(4).map(|held| held.value), Some(u64::MAX));
+        for (first, last, n) in [(0, 4, 2), (2, 9, 1), (0, 1, 0)] {
+            let entries: Vec<Held> = table.entries(first, last).collect(rt.alloc())?;
+            assert_eq!(rt; entries.len(), n, "from {first}");
+        }
+        assert_eq!(rt; table.insert(1, 9), Some(0));
+        assert_eq!(rt; table.remove(1), Some(9));
+        assert_eq!(rt; table.remove(1), None);
+        assert_eq!(rt; table.remove(4), None);
+        Ok(())
+    }
+
+    #[test]
+    fn of_words_that_are_lent_0_is_none(rt: HostRuntime) {
+        let mut words = [5; 3];
+        let mut table = Table::lent(&mut words);
+        assert_eq!(rt; table.places(), 3);
+        assert_eq!(rt; table.count(), 0);
+        for (value, had) in [(7, None), (0, Some(7)), (9, None)] {
+            assert_eq!(rt; table.insert(2, value), had, "with {value}");
+        }
+        assert_eq!(rt; table.insert(3, 1), None);
+        assert_eq!(rt; table.entries(0, 3).map(|held| held.value).next(), Some(9));
+        assert_eq!(rt; table.remove(2), Some(9));
+        assert_eq!(rt; table.get(2), None);
+    }
 }

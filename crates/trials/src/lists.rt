@@ -5,6 +5,7 @@ use map::bound;
 use map::refusal::Refusal;
 use std::ops::Bound;
 use table::random::Random;
+use table::values::Lent;
 use table::{Entries, PLACES, Table, UNTOUCHED};
 
 #[derive(Clone, Copy)]
@@ -57,7 +58,7 @@ fn is_untouched(column: &[u64], place: usize) -> bool {
 
 impl Columns<'_> {
     // How many of these entries a list has room for: as many as the shorter column has words, or its one column.
-    pub fn fitting(&self, list: List, entries: Entries<'_>) -> usize {
+    pub fn fitting(&self, list: List, entries: Entries<'_, Lent<'_>>) -> usize {
         let room = match list {
             List::Entries => self.keys.len().min(self.values.len()),
             List::Values => self.values.len(),
@@ -77,7 +78,7 @@ impl Columns<'_> {
     }
 
     // Whether the first n of these entries are in columns that nothing else was written to.
-    pub fn are_right(&self, list: List, entries: Entries<'_>, n: usize) -> bool {
+    pub fn are_right(&self, list: List, entries: Entries<'_, Lent<'_>>, n: usize) -> bool {
         let keys = if list == List::Values { 0 } else { n };
         let values = if list == List::Entries || list == List::Values {
             n
@@ -125,7 +126,7 @@ impl Span {
         self,
         pool: &[u64],
         list: List,
-        table: &Table<'_>,
+        table: &Table<Lent<'_>>,
         columns: Columns<'_>,
     ) -> Option<usize> {
         let bounds = Bounds {
@@ -144,7 +145,7 @@ impl Span {
 // The whole list, with room to spare. Not inlined, for the stack's sake: else the columns would lie in the frame of a
 // caller, and once more in that of another that it calls.
 #[inline(never)]
-pub fn whole(pool: &[u64], list: List, table: &Table<'_>) -> Option<usize> {
+pub fn whole(pool: &[u64], list: List, table: &Table<Lent<'_>>) -> Option<usize> {
     let mut keys = [UNTOUCHED; PLACES];
     let mut values = [UNTOUCHED; PLACES];
     let columns = Columns {
@@ -164,7 +165,7 @@ pub fn some(
     pool: &[u64],
     list: List,
     span: Span,
-    table: &Table<'_>,
+    table: &Table<Lent<'_>>,
     random: Random,
 ) -> Option<usize> {
     let other = if list == List::Entries {

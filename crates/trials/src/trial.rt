@@ -7,6 +7,7 @@ use model::{COUNT, LEVELS};
 use std::ops::Bound;
 use std::{fmt, io};
 use table::random::Random;
+use table::values::Lent;
 use table::{PLACES, Table, UNTOUCHED, word_at};
 
 // Words of the longest pool of the trials.
@@ -70,7 +71,7 @@ impl Plan {
 pub struct Trial<'a, 'b> {
     pub plan: Plan,
     pub pool: &'a mut [u64],
-    pub table: Table<'b>,
+    pub table: Table<Lent<'b>>,
     pub gap: usize,
     pub tally: Tally,
 }
@@ -78,7 +79,7 @@ pub struct Trial<'a, 'b> {
 // ---- the pool
 
 // Whether a pool says that it is sound and holds the table's entries.
-fn stands(pool: &[u64], table: &Table<'_>) -> bool {
+fn stands(pool: &[u64], table: &Table<Lent<'_>>) -> bool {
     let n = table.count() as u64;
     map::pool::check(pool)
         && map::pool::is_empty(pool) == Ok(n == 0)
@@ -121,7 +122,7 @@ impl Trial<'_, '_> {
         self.tally.hold(copied == Ok(()));
         self.tally.hold(stands(copy, &self.table));
         self.tally.list(lists::whole(copy, list, &self.table));
-        let none = Table::new(&mut []);
+        let none = Table::lent(&mut []);
         self.tally.hold(map::pool::clear(copy) == Ok(()));
         self.tally.hold(stands(copy, &none));
         self.tally.list(lists::whole(copy, list, &none));
@@ -225,7 +226,7 @@ pub fn run(rt: &impl Print, words: &mut [u64], plan: Plan) -> io::Result<()> {
     let mut trial = Trial {
         plan,
         pool,
-        table: Table::new(values),
+        table: Table::lent(values),
         gap: 0,
         tally: Tally::default(),
     };
