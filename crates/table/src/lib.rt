@@ -2,8 +2,9 @@
 // Numbers at random (`random`), numbers in words, and input read into bytes that are there.
 #![tactic(auto)]
 
-ghost use Rattle.std.specs.Prelude.{◌≡◌, ◌-◌, ◌<◌, ◌≤◌, ℕ, List, Option, length, get_or, set, replicate, None, Some, IfOk, IfSome};
+ghost use Rattle.std.specs.Prelude.{◌≡◌, ◌-◌, ◌<◌, ◌≤◌, ℕ, List, Option, is_some, length, get_or, set, replicate, None, Some, IfOk, IfSome};
 ghost use Rattle.std.specs.Iterator.{at_most};
+ghost use Rattle.std.specs.List.{filter};
 
 pub mod random;
 pub mod values;
@@ -151,7 +152,7 @@ impl<V: Values> Table<V> {
 
     // How many entries there are.
     pub fn count(&self) -> usize
-        ensures { result ≤ length self.now }
+        ensures { result ≡ length (filter is_some self.now) }
     {
         self.values.count()
     }

@@ -1,6 +1,7 @@
 // The values of a table's places, in key order: each place has a value or none. They lie in a `Vec` of the table's own,
 // or in words that are lent to it.
-ghost use Rattle.std.specs.Prelude.{◌≡◌, ◌≤◌, ℕ, List, Option, None, map, length, get_or, set, replicate, unwrap_or};
+ghost use Rattle.std.specs.Prelude.{◌≡◌, ℕ, is_some, not, nat_eq, List, Option, None, map, length, get_or, set, replicate, unwrap_or};
+ghost use Rattle.std.specs.List.{filter};
 ghost use Rattle.table.specs.Places.{value_in};
 
 use crate::word_at;
@@ -27,7 +28,7 @@ pub trait Values {
 
     // How many places have a value.
     fn count(&self) -> usize
-        ensures { result ≤ length (at_places self.now) };
+        ensures { result ≡ length (filter is_some (at_places self.now)) };
 }
 
 impl Values for Vec<Option<u64>> {
@@ -76,6 +77,13 @@ fn value_of(word: u64) -> Option<u64>
     (word != 0).then_some(word)
 }
 
+// How many words have one.
+fn count_in(words: &[u64]) -> usize
+    ensures { result ≡ length (filter (λ word. not (nat_eq word 0)) words.now) }
+{
+    words.iter().filter(|word| **word != 0).count()
+}
+
 impl Values for Lent<'_> {
     ghost at_places = { λ lent. map value_in lent.words.now };
 
@@ -99,6 +107,6 @@ impl Values for Lent<'_> {
     }
 
     fn count(&self) -> usize {
-        self.words.iter().filter(|word| **word != 0).count()
+        count_in(self.words)
     }
 }
